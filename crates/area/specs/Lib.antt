@@ -1,0 +1,2 @@
+-- The area test.
+pub mod AreaTest

@@ -1,0 +1,3 @@
+-- Edges that meet, and rings that meet themselves.
+pub mod Edges
+pub mod BowTie

@@ -1,0 +1,7 @@
+-- The findings of a model, and the check.
+pub mod Findings
+pub mod Rules
+pub mod Records
+pub mod Check
+pub mod Candidates
+pub mod Compared

@@ -1,0 +1,4 @@
+-- Floats and their square root.
+pub mod Floats
+pub mod Root
+pub mod RootAnswer

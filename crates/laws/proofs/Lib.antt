@@ -1,0 +1,7 @@
+-- Laws of the shared definitions.
+pub mod Tests
+pub mod ListLaws
+pub mod Ascending
+pub mod Sorting
+pub mod Permutations
+pub mod Stores

@@ -1,0 +1,1 @@
+// Definitions that every crate shares, and their laws.

@@ -1,0 +1,5 @@
+-- The model file: records, the file, reading and writing.
+pub mod Records
+pub mod File
+pub mod Reading
+pub mod Writing

@@ -1,0 +1,2 @@
+-- The operation that fills ring lists.
+pub mod Filling

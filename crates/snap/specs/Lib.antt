@@ -1,0 +1,3 @@
+-- Welded numbers, and the welding operation.
+pub mod Weld
+pub mod Welding
