@@ -5,9 +5,11 @@ use mathlib.Core.Logic.{_⊎_, inl, inr}
 use mathlib.Core.Bool.{Bool, true, false, _&&_, _||_, or-assoc, false≢true}
 use mathlib.Core.List.{List, [], _∷_, _++_, map, append-assoc, append-nil, map-append}
 use native.Mathlib.Nat.{add-zero, add-suc, suc-add}
+use native.Mathlib.Numerals.{add-one}
 use native.Mathlib.Omega.{arith}
 use lib.Dec.{eqb}
-use lib.ListN.{length, getD}
+use lib.ListN.{length, getD, drop}
+use lib.Seq.{drop-cons}
 use Rattle.laws.specs.Lists.{onlyIf, any, each, walk, keep, eql, upFrom}
 use Rattle.laws.proofs.Tests.{tested, clash, or-four, and-parts, eqb-self, eqb-comm}
 use borrow.Author.Tests.{eqb-true}
@@ -60,6 +62,10 @@ module _ {ℓ} {A : Type ℓ} where
 
   pub any-ext : {p q : A → Bool} → ((x : A) → p x ≡ q x) → (l : List A) → any p l ≡ any q l
   any-ext h l = ap (λ (k : A → Bool). any k l) (fun-ext h)
+
+  -- a test of what is left, one element at a time
+  pub any-drop : (p : A → Bool) (l : List A) (i : ℕ) (d : A) → i < length l → any p (drop i l) ≡ (p (getD l i d) || any p (drop (i + 1) l))
+  any-drop p l i d h = rw (drop-cons l i d h, add-one i)
 
   any-none : (l : List A) → any (λ x. false) l ≡ false
   any-none [] = refl

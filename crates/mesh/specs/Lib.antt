@@ -3,3 +3,4 @@ pub mod Model
 pub mod Rings
 pub mod Acceptance
 pub mod Lookup
+pub mod Steps

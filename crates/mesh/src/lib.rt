@@ -1,4 +1,14 @@
-// The model: its cells, their rings and faces; why a model is refused; the ring lookup and the owners of a face.
+// The model: its check flags, and why it is refused; one pass over its cells judges and counts.
+ghost use mathlib.Core.Path.{_≡_};
+ghost use mathlib.Core.Bool.{_||_, not, cond, false};
+ghost use Prim.Native.Nat.{_+_, _≤_, _<_};
+ghost use lib.Dec.{leb, ltb, eqb};
+ghost use lib.ListN.{length, drop};
+ghost use Rattle.laws.specs.Limits.{ringLimit};
+ghost use Rattle.laws.specs.Lists.{any};
+ghost use Rattle.mesh.specs.Model.{modelOf, contains as containsOf, intersects as intersectsOf};
+ghost use Rattle.mesh.specs.Acceptance.{endsOff, kindOff, nodeOff};
+ghost use Rattle.mesh.specs.Steps.{lead, cellWith, RunsCounted, KindCounted, CellCounted};
 
 // The check flags.
 pub struct Checks(pub u8);
@@ -7,6 +17,18 @@ impl Checks {
     pub const TOPOLOGY: Checks = Checks(1);
 
     pub const BUTTERFLY: Checks = Checks(2);
+
+    pub fn contains(self, other: Checks) -> bool
+        ensures { λ r. ⌜ r ≡ containsOf (self .0) (other .0) ⌝ }
+    {
+        self.0 & other.0 == other.0
+    }
+
+    pub fn intersects(self, other: Checks) -> bool
+        ensures { λ r. ⌜ r ≡ intersectsOf (self .0) (other .0) ⌝ }
+    {
+        self.0 & other.0 != 0
+    }
 }
 
 // One of the two ring lists.
@@ -19,4 +41,209 @@ pub enum RingList {
 pub enum Counted {
     Refused(u8),
     Count(u32),
+}
+
+// The word that separates the rings of a PHED.
+pub const SEPARATOR: u32 = 4294967295;
+
+// What is counted of a PHED's words: whether a ring is too long, its faces and the words of these.
+pub struct RunTally {
+    pub long: bool,
+    pub faces: usize,
+    pub words: usize,
+}
+
+// What is judged and counted of cells: a refusal or 0, faces and ring words.
+pub struct CellTally {
+    pub refusal: u8,
+    pub faces: usize,
+    pub words: usize,
+}
+
+// A word as an index.
+pub fn wide(x: u32) -> usize
+    ensures { λ r. ⌜ (r ≡ x) × (r < 4294967296) ⌝ }
+{
+    x as usize
+}
+
+// Ends descend, or the last is not n.
+fn ends_off(ends: &[u32], n: usize) -> bool
+    ensures { λ r. ⌜ r ≡ endsOff 0 (now (ends .entry)) n ⌝ }
+{
+    let mut at: usize = 0;
+    let mut i = 0;
+    while i < ends.len() {
+        let e = wide(ends[i]);
+        if e < at {
+            return true;
+        }
+        at = e;
+        i += 1;
+    }
+    at != n
+}
+
+// Where the run that starts at `from` ends: the next separator's place, or the end of the words.
+pub fn run_end(words: &[u32], from: usize) -> usize
+    requires { ⌜ from ≤ length (now words) ⌝ }
+    ensures { λ r. ⌜ (r ≡ from + lead (drop from (now (words .entry)))) × (r ≤ length (now (words .entry))) ⌝ }
+{
+    let mut i = from;
+    while i < words.len() {
+        if words[i] == SEPARATOR {
+            return i;
+        }
+        i += 1;
+    }
+    i
+}
+
+// A run of so many words noted.
+fn note_run(t: RunTally, len: usize) -> RunTally
+    requires { ⌜ (t .faces < 4294967296) × (t .words < 4294967296) × (len < 4294967296) ⌝ }
+    ensures { λ r. ⌜ (r .long ≡ (t .long || ltb ringLimit len)) × (r .faces ≡ t .faces + cond (leb 3 len) 1 0) × (r .words ≡ t .words + cond (leb 3 len) len 0) ⌝ }
+{
+    let over = len > 64;
+    let long = t.long | over;
+    if len < 3 {
+        return RunTally {
+            long: long,
+            faces: t.faces,
+            words: t.words,
+        };
+    }
+    RunTally {
+        long: long,
+        faces: t.faces + 1,
+        words: t.words + len,
+    }
+}
+
+// A PHED's runs, one by one.
+pub fn tally_runs(words: &[u32]) -> RunTally
+    requires { ⌜ length (now words) < 4294967296 ⌝ }
+    ensures { λ r. ⌜ RunsCounted (now (words .entry)) r ⌝ }
+{
+    let mut t = RunTally {
+        long: false,
+        faces: 0,
+        words: 0,
+    };
+    let mut i: usize = 0;
+    while i < words.len() {
+        let e = run_end(words, i);
+        t = note_run(t, e - i);
+        i = e + 1;
+    }
+    t
+}
+
+// A kind that is none, or out of order.
+fn kind_off(before: u8, kind: u8) -> bool
+    ensures { λ r. ⌜ r ≡ kindOff before kind ⌝ }
+{
+    let lower = kind < before;
+    let none = kind == 0;
+    let over = 4 < kind;
+    lower | none | over
+}
+
+// A word that is no node's number, and in a PHED no separator.
+fn node_off(nodes: usize, kind: u8, word: u32) -> bool
+    ensures { λ r. ⌜ r ≡ nodeOff nodes kind word ⌝ }
+{
+    let large = nodes <= wide(word);
+    let phed = kind == 4;
+    let separates = word == SEPARATOR;
+    large & !(phed & separates)
+}
+
+// Some word is.
+fn nodes_off(nodes: usize, kind: u8, words: &[u32]) -> bool
+    ensures { λ r. ⌜ r ≡ any (nodeOff nodes kind) (now (words .entry)) ⌝ }
+{
+    let mut i = 0;
+    while i < words.len() {
+        if node_off(nodes, kind, words[i]) {
+            return true;
+        }
+        i += 1;
+    }
+    false
+}
+
+// A cell of so many words, where it must have `wanted`, with so many faces and ring words.
+fn tally_fixed(len: usize, wanted: usize, faces: usize, words: usize) -> RunTally
+    ensures { λ r. ⌜ (r .long ≡ not (eqb len wanted)) × (r .faces ≡ faces) × (r .words ≡ words) ⌝ }
+{
+    RunTally {
+        long: len != wanted,
+        faces: faces,
+        words: words,
+    }
+}
+
+// A PHED: no word, or a ring too long; and its faces.
+fn tally_phed(words: &[u32]) -> RunTally
+    requires { ⌜ length (now words) < 4294967296 ⌝ }
+    ensures { λ r. ⌜ KindCounted (cellWith 4 (now (words .entry))) r ⌝ }
+{
+    let t = tally_runs(words);
+    let none = words.len() == 0;
+    let long = none | t.long;
+    RunTally {
+        long: long,
+        faces: t.faces,
+        words: t.words,
+    }
+}
+
+// A cell's word count and rings, by its kind.
+fn tally_kind(kind: u8, words: &[u32]) -> RunTally
+    requires { ⌜ (length (now words) < 4294967296) × (kindOff 0 kind ≡ false) ⌝ }
+    ensures { λ r. ⌜ KindCounted (cellWith kind (now (words .entry))) r ⌝ }
+{
+    if kind == 1 {
+        return tally_fixed(words.len(), 4, 4, 12);
+    }
+    if kind == 2 {
+        return tally_fixed(words.len(), 8, 6, 24);
+    }
+    if kind == 3 {
+        return tally_fixed(words.len(), 6, 5, 18);
+    }
+    tally_phed(words)
+}
+
+fn refused(n: u8) -> CellTally
+    ensures { λ r. ⌜ (r .refusal ≡ n) × (r .faces ≡ 0) × (r .words ≡ 0) ⌝ }
+{
+    CellTally {
+        refusal: n,
+        faces: 0,
+        words: 0,
+    }
+}
+
+// A cell after one of kind `before`: kind, then count, then nodes.
+fn tally_cell(kind: u8, before: u8, words: &[u32], nodes: usize) -> CellTally
+    requires { ⌜ length (now words) < 4294967296 ⌝ }
+    ensures { λ r. ⌜ CellCounted nodes before (cellWith kind (now (words .entry))) r ⌝ }
+{
+    if kind_off(before, kind) {
+        return refused(9);
+    }
+    let t = tally_kind(kind, words);
+    if t.long {
+        return refused(9);
+    }
+    if nodes_off(nodes, kind, words) {
+        return refused(9);
+    }
+    CellTally {
+        refusal: 0,
+        faces: t.faces,
+        words: t.words,
+    }
 }

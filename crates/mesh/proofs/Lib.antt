@@ -1,0 +1,5 @@
+-- Laws of the model, its rings and what is refused.
+pub mod Runs
+pub mod Ends
+pub mod RunTallies
+pub mod Cells
