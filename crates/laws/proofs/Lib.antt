@@ -5,3 +5,4 @@ pub mod Ascending
 pub mod Sorting
 pub mod Permutations
 pub mod Stores
+pub mod Tables

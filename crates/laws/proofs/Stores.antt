@@ -41,7 +41,7 @@ module _ {A : Type 0} where
   drop-after n l o (x ∷ xs) h = drop-after n (set l o x) (suc o) xs (omega arith) ∙ drop-set-lt n l o x (omega arith)
 
   -- a region: `take n (drop a l)`, before the run, behind it, and the run itself
-  take-drop : (a n : ℕ) (l : List A) → take n (drop a l) ≡ drop a (take (a + n) l)
+  pub take-drop : (a n : ℕ) (l : List A) → take n (drop a l) ≡ drop a (take (a + n) l)
   take-drop zero n l = ap (λ (k : ℕ). take k l) (sym (zero-add n))
   take-drop (suc a) n [] = nil-take n ∙ sym (ap (drop (suc a)) (nil-take (suc a + n)))
     where

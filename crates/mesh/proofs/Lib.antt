@@ -3,3 +3,4 @@ pub mod Runs
 pub mod Ends
 pub mod RunTallies
 pub mod Cells
+pub mod CellTallies

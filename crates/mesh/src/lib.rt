@@ -6,9 +6,9 @@ ghost use lib.Dec.{leb, ltb, eqb};
 ghost use lib.ListN.{length, drop};
 ghost use Rattle.laws.specs.Limits.{ringLimit};
 ghost use Rattle.laws.specs.Lists.{any};
-ghost use Rattle.mesh.specs.Model.{modelOf, contains as containsOf, intersects as intersectsOf};
+ghost use Rattle.mesh.specs.Model.{cellsFrom, contains as containsOf, intersects as intersectsOf};
 ghost use Rattle.mesh.specs.Acceptance.{endsOff, kindOff, nodeOff};
-ghost use Rattle.mesh.specs.Steps.{lead, cellWith, RunsCounted, KindCounted, CellCounted};
+ghost use Rattle.mesh.specs.Steps.{lead, cellWith, RunsCounted, KindCounted, CellCounted, CellsCounted};
 
 // The check flags.
 pub struct Checks(pub u8);
@@ -245,5 +245,35 @@ fn tally_cell(kind: u8, before: u8, words: &[u32], nodes: usize) -> CellTally
         refusal: 0,
         faces: t.faces,
         words: t.words,
+    }
+}
+
+// The cells in order: the first refusal, or all faces and ring words.
+pub fn tally_cells(kinds: &[u8], ends: &[u32], words: &[u32], nodes: usize) -> CellTally
+    requires { ⌜ (length (now kinds) ≡ length (now ends)) × (endsOff 0 (now ends) (length (now words)) ≡ false) × (length (now kinds) ≤ 16384) × (length (now words) ≤ 262144) ⌝ }
+    ensures { λ r. ⌜ CellsCounted nodes (cellsFrom 0 (now (kinds .entry)) (now (ends .entry)) (now (words .entry))) r ⌝ }
+{
+    let mut faces: usize = 0;
+    let mut ring_words: usize = 0;
+    let mut at: usize = 0;
+    let mut before: u8 = 0;
+    let mut i = 0;
+    while i < kinds.len() {
+        let e = wide(ends[i]);
+        let kind = kinds[i];
+        let t = tally_cell(kind, before, &words[at..e], nodes);
+        if t.refusal != 0 {
+            return refused(t.refusal);
+        }
+        faces += t.faces;
+        ring_words += t.words;
+        before = kind;
+        at = e;
+        i += 1;
+    }
+    CellTally {
+        refusal: 0,
+        faces: faces,
+        words: ring_words,
     }
 }

@@ -1,0 +1,138 @@
+use borrow.Author.Needs.{needs}
+use native.Mathlib.Omega.{arith}
+use Rattle.mesh.proofs.tally_cells.Statement.{statement}
+use Rattle.mesh.proofs.tally_cells.Tie as tie
+use Rattle.mesh.proofs.tally_cells.Reads as reads
+use Rattle.mesh.proofs.tally_cells.Lts as lts
+use Rattle.mesh.proofs.refused.Reads as refused-reads
+use Rattle.mesh.proofs.tally_cell.Reads as tally-cell-reads
+use Rattle.mesh.proofs.wide.Reads as wide-reads
+use Rattle.mesh.proofs.CellTallies.{Counting, counting-start, next-end, counting-end}
+use mathlib.Core.Path.{refl, sym, _∙_}
+use lib.ListN.{length}
+use Prim.Native.Nat.{_-_}
+use Rattle.mesh.proofs.CellTallies.{refused-at, counting-at, cells-refused}
+
+abbrev Inv-loop : tie.InvT-loop
+Inv-loop kinds ends words nodes faces₀ ring-words₀ at₀ before₀ i₀ faces ring-words at before i = Counting kinds ends words nodes faces ring-words at before i
+
+abbrev μ-loop : tie.MeasureT-loop
+μ-loop kinds ends words nodes faces₀ ring-words₀ at₀ before₀ i₀ faces ring-words at before i = length kinds - i
+
+loop-holds : tie.Need-loop-holds Inv-loop μ-loop
+loop-holds c =
+    let s = c .before .before .before in
+    counting-start (s .args .kinds .now) (s .args .ends .now) (s .args .words .now) (s .args .nodes) (s .pre .1)
+
+mul-wide : tie.Need-mul-wide Inv-loop μ-loop
+mul-wide c = search needs
+
+shared-slice-read-wide : tie.Need-shared-slice-read-wide Inv-loop μ-loop
+shared-slice-read-wide c = search needs
+
+wide-requires : tie.Need-wide-requires Inv-loop μ-loop
+wide-requires c κs = search needs
+
+shared-slice-read-kind : tie.Need-shared-slice-read-kind Inv-loop μ-loop
+shared-slice-read-kind c = search needs
+
+mul-tally-cell : tie.Need-mul-tally-cell Inv-loop μ-loop
+mul-tally-cell c =
+    let at = c .before .before .before .before in
+    let s = c .before .before .before .before .before .before .before .before in
+    let p = next-end (s .args .kinds .now) (s .args .ends .now) (s .args .words .now) (s .args .nodes) (at .loop .faces) (at .loop .ring-words) (at .loop .at) (at .loop .before) (at .loop .i) (at .loop .inv) (s .pre .0) (omega arith) in
+    omega (arith, p .0, p .1, s .pre .3)
+
+sub-tally-cell : tie.Need-sub-tally-cell Inv-loop μ-loop
+sub-tally-cell c =
+    let at = c .before .before .before .before in
+    let s = c .before .before .before .before .before .before .before .before in
+    let p = next-end (s .args .kinds .now) (s .args .ends .now) (s .args .words .now) (s .args .nodes) (at .loop .faces) (at .loop .ring-words) (at .loop .at) (at .loop .before) (at .loop .i) (at .loop .inv) (s .pre .0) (omega arith) in
+    omega (arith, p .0, p .1, c .before .wide .ensures .0)
+
+part-tally-cell-start : tie.Need-part-tally-cell-start Inv-loop μ-loop
+part-tally-cell-start c =
+    let at = c .before .before .before .before in
+    let s = c .before .before .before .before .before .before .before .before in
+    let p = next-end (s .args .kinds .now) (s .args .ends .now) (s .args .words .now) (s .args .nodes) (at .loop .faces) (at .loop .ring-words) (at .loop .at) (at .loop .before) (at .loop .i) (at .loop .inv) (s .pre .0) (omega arith) in
+    omega (arith, p .0, p .1, c .before .wide .ensures .0)
+
+part-tally-cell-end : tie.Need-part-tally-cell-end Inv-loop μ-loop
+part-tally-cell-end c =
+    let at = c .before .before .before .before in
+    let s = c .before .before .before .before .before .before .before .before in
+    let p = next-end (s .args .kinds .now) (s .args .ends .now) (s .args .words .now) (s .args .nodes) (at .loop .faces) (at .loop .ring-words) (at .loop .at) (at .loop .before) (at .loop .i) (at .loop .inv) (s .pre .0) (omega arith) in
+    omega (arith, p .0, p .1, c .before .wide .ensures .0)
+
+tally-cell-requires : tie.Need-tally-cell-requires Inv-loop μ-loop
+tally-cell-requires c κs = search needs
+
+refused-requires : tie.Need-refused-requires Inv-loop μ-loop
+refused-requires c κs = search needs
+
+returns : tie.Need-returns Inv-loop μ-loop
+returns c =
+    let s = c .before .before .before .before .before .before .before .before .before .before .before .before .before in
+    let at = c .before .before .before .before .before .before .before .before .before in
+    let t = c .before .before .before .tally-cell in
+    let z = c .before .if1 .taken in
+    let e = c .refused .ensures .0 in
+    cells-refused (s .args .nodes) _ _ (e ∙ refused-at (s .args .kinds .now) (s .args .ends .now) (s .args .words .now) (s .args .nodes) (at .loop .faces) (at .loop .ring-words) (at .loop .at) (at .loop .before) (at .loop .i) (at .loop .inv) (s .pre .0) (c .before .before .before .before .before .before .before .before .loop-test .taken) _ (c .before .before .before .before .before .before .wide .ensures .0) (c .before .before .before .tally-cell .result) (t .ensures) z) (λ y. z (sym e ∙ y))
+
+add-faces : tie.Need-add-faces Inv-loop μ-loop
+add-faces c =
+    let s = c .before .before .before .before .before .before .before .before .before .before .before .before .before in
+    let at = c .before .before .before .before .before .before .before .before .before in
+    let k = counting-at (s .args .kinds .now) (s .args .ends .now) (s .args .words .now) (s .args .nodes) (at .loop .faces) (at .loop .ring-words) (at .loop .at) (at .loop .before) (at .loop .i) (at .loop .inv) (s .pre .0) (c .before .before .before .before .before .before .before .before .loop-test .taken) _ (c .before .before .before .before .before .before .wide .ensures .0) (c .before .before .before .tally-cell .result) (c .before .before .before .tally-cell .ensures) (c .before .if1 .left) in
+    omega (arith, k .few, c .before .before .before .before .before .before .wide .ensures .1, s .pre .2)
+
+add-ring-words : tie.Need-add-ring-words Inv-loop μ-loop
+add-ring-words c =
+    let s = c .before .before .before .before .before .before .before .before .before .before .before .before .before .before in
+    let at = c .before .before .before .before .before .before .before .before .before .before in
+    let k = counting-at (s .args .kinds .now) (s .args .ends .now) (s .args .words .now) (s .args .nodes) (at .loop .faces) (at .loop .ring-words) (at .loop .at) (at .loop .before) (at .loop .i) (at .loop .inv) (s .pre .0) (c .before .before .before .before .before .before .before .before .before .loop-test .taken) _ (c .before .before .before .before .before .before .before .wide .ensures .0) (c .before .before .before .before .tally-cell .result) (c .before .before .before .before .tally-cell .ensures) (c .before .before .if1 .left) in
+    omega (arith, k .small, c .before .before .before .before .before .before .before .wide .ensures .1, s .pre .2)
+
+add-i : tie.Need-add-i Inv-loop μ-loop
+add-i c = search needs
+
+loop-less : tie.Need-loop-less Inv-loop μ-loop
+loop-less c = search needs
+
+loop-again : tie.Need-loop-again Inv-loop μ-loop
+loop-again c =
+    let s = c .before .before .before .before .before .before .before .before .before .before .before .before .before .before in
+    let at = c .before .before .before .before .before .before .before .before .before .before in
+    let t = c .before .before .before .before .tally-cell in
+    counting-at (s .args .kinds .now) (s .args .ends .now) (s .args .words .now) (s .args .nodes) (at .loop .faces) (at .loop .ring-words) (at .loop .at) (at .loop .before) (at .loop .i) (at .loop .inv) (s .pre .0) (c .before .before .before .before .before .before .before .before .before .loop-test .taken) _ (c .before .before .before .before .before .before .before .wide .ensures .0) (c .before .before .before .before .tally-cell .result) (t .ensures) (c .before .before .if1 .left)
+
+returns-2 : tie.Need-returns-2 Inv-loop μ-loop
+returns-2 c =
+    let at = c .before in
+    let s = c .before .before .before .before .before in
+    counting-end (s .args .kinds .now) (s .args .ends .now) (s .args .words .now) (s .args .nodes) (at .loop .faces) (at .loop .ring-words) (at .loop .at) (at .loop .before) (at .loop .i) _ (at .loop .inv) (omega arith) refl refl refl
+
+pub tally-cells-spec : {M : Type 1} → statement M
+tally-cells-spec =
+    tie.close
+    (tie.spec
+    Inv-loop
+    μ-loop
+    loop-holds
+    mul-wide
+    shared-slice-read-wide
+    wide-requires
+    shared-slice-read-kind
+    mul-tally-cell
+    sub-tally-cell
+    part-tally-cell-start
+    part-tally-cell-end
+    tally-cell-requires
+    refused-requires
+    returns
+    add-faces
+    add-ring-words
+    add-i
+    loop-less
+    loop-again
+    returns-2)
