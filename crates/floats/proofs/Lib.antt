@@ -9,3 +9,4 @@ pub mod Written
 pub mod Cases
 pub mod Small
 pub mod Bytes
+pub mod Constants
