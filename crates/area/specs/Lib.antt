@@ -1,2 +1,3 @@
 -- The area test.
 pub mod AreaTest
+pub mod Steps

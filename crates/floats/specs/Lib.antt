@@ -2,3 +2,4 @@
 pub mod Floats
 pub mod Root
 pub mod RootAnswer
+pub mod Steps

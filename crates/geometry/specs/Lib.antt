@@ -2,3 +2,4 @@
 pub mod Points
 pub mod Scale
 pub mod Coordinates
+pub mod Steps

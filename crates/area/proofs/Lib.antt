@@ -1,0 +1,3 @@
+-- Laws of the area test.
+pub mod Judged
+pub mod Refused

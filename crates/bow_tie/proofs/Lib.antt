@@ -1,0 +1,2 @@
+-- Laws of edges and rings.
+pub mod Sought

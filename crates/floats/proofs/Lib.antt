@@ -1,0 +1,12 @@
+-- Laws of floats and of their root; Nearest.antt has the theorems.
+pub mod Whole
+pub mod Grid
+pub mod Halfway
+pub mod Scaled
+pub mod Fields
+pub mod Nearest
+pub mod Written
+pub mod Cases
+pub mod Small
+pub mod Bytes
+pub mod Constants

@@ -1,0 +1,46 @@
+-- `floats::le_two` meets its contract.
+use native.Mathlib.Omega.{arith}
+use Rattle.floats.proofs.Bytes.{two}
+use borrow.Author.Needs.{needs}
+use Rattle.floats.proofs.le_two.Statement.{statement}
+use Rattle.floats.proofs.le_two.Tie as tie
+
+shared-slice-read-wide : tie.Need-shared-slice-read-wide
+shared-slice-read-wide c = search needs
+
+wide-requires : tie.Need-wide-requires
+wide-requires c κs = search needs
+
+add-wide : tie.Need-add-wide
+add-wide c = search needs
+
+shared-slice-read-wide-2 : tie.Need-shared-slice-read-wide-2
+shared-slice-read-wide-2 c = search needs
+
+wide-requires-2 : tie.Need-wide-requires-2
+wide-requires-2 c κs = search needs
+
+mul-result : tie.Need-mul-result
+mul-result c = search needs
+
+add-result : tie.Need-add-result
+add-result c = search needs
+
+returns : tie.Need-returns
+returns c =
+    let b = c .before .before .before .before .before in
+    let e = two (b .args .s .now) (b .args .at) (b .pre) in
+    (omega arith, omega arith)
+
+pub le-two-spec : {M : Type 1} → statement M
+le-two-spec =
+    tie.close
+    (tie.spec
+    shared-slice-read-wide
+    wide-requires
+    add-wide
+    shared-slice-read-wide-2
+    wide-requires-2
+    mul-result
+    add-result
+    returns)

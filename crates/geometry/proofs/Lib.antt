@@ -1,0 +1,3 @@
+-- Laws of points and coordinates.
+pub mod Listed
+pub mod Limited
