@@ -65,7 +65,7 @@ pub counting-start : (kinds ends words : List ℕ) (n : ℕ) → endsOff 0 ends 
 counting-start kinds ends words n h =
     record { table = refl; faces = omega arith; rings = omega arith; order = h; few = omega arith; small = omega arith; seen = omega arith }
 
-nine : (n before : ℕ) (c : Raw) → Numbered (cellTable n before c)
+pub nine : (n before : ℕ) (c : Raw) → Numbered (cellTable n before c)
 unfolding cellTable
 nine n before c = (λ e. omega arith, (λ e. omega arith, (λ e. omega arith, tt)))
 

@@ -4,3 +4,4 @@ pub mod Ends
 pub mod RunTallies
 pub mod Cells
 pub mod CellTallies
+pub mod Accepted

@@ -1,14 +1,15 @@
 // The model: its check flags, and why it is refused; one pass over its cells judges and counts.
 ghost use mathlib.Core.Path.{_≡_};
 ghost use mathlib.Core.Bool.{_||_, not, cond, false};
-ghost use Prim.Native.Nat.{_+_, _≤_, _<_};
+ghost use Prim.Native.Nat.{_+_, _*_, _≤_, _<_};
 ghost use lib.Dec.{leb, ltb, eqb};
 ghost use lib.ListN.{length, drop};
-ghost use Rattle.laws.specs.Limits.{ringLimit};
+ghost use Rattle.laws.specs.Limits.{cellLimit, wordLimit, ringLimit};
 ghost use Rattle.laws.specs.Lists.{any};
-ghost use Rattle.mesh.specs.Model.{cellsFrom, contains as containsOf, intersects as intersectsOf};
+ghost use Rattle.geometry.specs.Coordinates.{countOff};
+ghost use Rattle.mesh.specs.Model.{cellsFrom, modelOf, contains as containsOf, intersects as intersectsOf};
 ghost use Rattle.mesh.specs.Acceptance.{endsOff, kindOff, nodeOff};
-ghost use Rattle.mesh.specs.Steps.{lead, cellWith, RunsCounted, KindCounted, CellCounted, CellsCounted};
+ghost use Rattle.mesh.specs.Steps.{lead, cellWith, RunsCounted, KindCounted, CellCounted, CellsCounted, ModelCounted};
 
 // The check flags.
 pub struct Checks(pub u8);
@@ -276,4 +277,57 @@ pub fn tally_cells(kinds: &[u8], ends: &[u32], words: &[u32], nodes: usize) -> C
         faces: faces,
         words: ring_words,
     }
+}
+
+// Limits and lengths.
+fn shape_off(coords: usize, kinds: usize, ends: &[u32], words: usize) -> bool
+    ensures { λ r. ⌜ r ≡ (countOff coords || ltb cellLimit kinds || ltb wordLimit words || not (eqb kinds (length (now (ends .entry)))) || endsOff 0 (now (ends .entry)) words) ⌝ }
+{
+    let count = geometry::count_off(coords);
+    let cells = 16384 < kinds;
+    let many = 262144 < words;
+    let unequal = kinds != ends.len();
+    let wrong = ends_off(ends, words);
+    count | cells | many | unequal | wrong
+}
+
+// A model: the first of refusals 5 to 10, or 0 with its faces and ring words.
+pub fn accept(
+    coords: &[f64],
+    kinds: &[u8],
+    ends: &[u32],
+    words: &[u32],
+    tol: f64,
+    checks: Checks,
+) -> CellTally
+    ensures { λ r. ⌜ ModelCounted (modelOf (now (coords .entry)) (now (kinds .entry)) (now (ends .entry)) (now (words .entry)) tol (checks .0) 0) r ⌝ }
+{
+    if shape_off(coords.len(), kinds.len(), ends, words.len()) {
+        return refused(5);
+    }
+    if geometry::tolerance_off(tol) {
+        return refused(6);
+    }
+    if geometry::coordinates_off(coords) {
+        return refused(7);
+    }
+    if kinds.len() == 0 {
+        return refused(8);
+    }
+    let t = tally_cells(kinds, ends, words, coords.len() / 3);
+    if t.refusal != 0 {
+        return refused(t.refusal);
+    }
+    if 3 < checks.0 {
+        return refused(10);
+    }
+    t
+}
+
+// 8R + 4F + 8C + 4N + 4M + 16
+pub fn work_needed(t: CellTally, cells: usize, nodes: usize, words: usize) -> usize
+    requires { ⌜ (t .words < 4294967296) × (t .faces < 4294967296) × (cells < 4294967296) × (nodes < 4294967296) × (words < 4294967296) ⌝ }
+    ensures { λ r. ⌜ r ≡ 8 * t .words + 4 * t .faces + 8 * cells + 4 * nodes + 4 * words + 16 ⌝ }
+{
+    8 * t.words + 4 * t.faces + 8 * cells + 4 * nodes + 4 * words + 16
 }
