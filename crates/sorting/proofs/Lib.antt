@@ -1,0 +1,2 @@
+-- Laws of sorting by insertion.
+pub mod Inserting

@@ -1,0 +1,2 @@
+-- For internal contracts.
+pub mod Seat
