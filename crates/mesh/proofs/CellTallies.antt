@@ -70,7 +70,7 @@ unfolding cellTable
 nine n before c = (λ e. omega arith, (λ e. omega arith, (λ e. omega arith, tt)))
 
 -- the words of one list of rings after another
-total-append : (a b : List (List ℕ)) → ringTotal (a ++ b) ≡ ringTotal a + ringTotal b
+pub total-append : (a b : List (List ℕ)) → ringTotal (a ++ b) ≡ ringTotal a + ringTotal b
 total-append a b = ap length (each-append (λ (r : List ℕ). r) a b) ∙ length-append (each (λ (r : List ℕ). r) a) (each (λ (r : List ℕ). r) b)
 
 module _ (kinds ends words : List ℕ) (n f w at before i : ℕ) (r : Counting kinds ends words n f w at before i) (same : length kinds ≡ length ends) (more : i < length kinds) where

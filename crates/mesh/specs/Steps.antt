@@ -1,6 +1,6 @@
 -- For internal contracts: runs one by one, and what a pass over cells counts.
 use Prim.Native.Nat.{ℕ, zero, suc, _+_, _≤_}
-use mathlib.Core.Bool.{Bool, cond, _||_}
+use mathlib.Core.Bool.{Bool, false, cond}
 use mathlib.Core.List.{List, [], _∷_}
 use mathlib.Core.Path.{_≡_}
 use lib.Dec.{leb, ltb, eqb}
@@ -10,7 +10,7 @@ use Rattle.laws.specs.Lists.{any, each}
 use Rattle.laws.specs.Refusals.{refusal}
 use Rattle.mesh.specs.Model.{Model, Raw}
 use Rattle.mesh.specs.Rings.{separator, runs, phedRings, ringsOf, ringWords}
-use Rattle.mesh.specs.Acceptance.{countWrong, cellTable, cellsTable, modelRefusal, facesIn}
+use Rattle.mesh.specs.Acceptance.{kindOff, countWrong, cellTable, cellsTable, modelRefusal, facesIn}
 use Rattle.mesh.specs.declared.RunTally.{RunTally}
 use Rattle.mesh.specs.declared.CellTally.{CellTally}
 
@@ -38,6 +38,15 @@ pub record RunsCounted (ws : List ℕ) (t : RunTally) : Type 0 where
 -- the cell of a kind and words
 abbrev pub cellWith : ℕ → List ℕ → Raw
 cellWith kind words = record { kind = kind; words = words }
+
+-- a cell whose kind and word count are right
+pub record WellCell (c : Raw) : Type 0 where
+  pub kind : kindOff 0 (c .kind) ≡ false
+  pub count : countWrong c ≡ false
+
+abbrev pub WellCells : List Raw → Type 0
+WellCells [] = Unit {0}
+WellCells (c ∷ cs) = WellCell c × WellCells cs
 
 -- what is counted of a cell by its kind
 pub record KindCounted (c : Raw) (t : RunTally) : Type 0 where
