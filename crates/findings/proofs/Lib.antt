@@ -3,3 +3,6 @@ pub mod Laws
 pub mod Nodes
 pub mod Faces
 pub mod Reorder
+pub mod Exact
+pub mod Only
+pub mod Means

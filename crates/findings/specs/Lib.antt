@@ -5,3 +5,4 @@ pub mod Records
 pub mod Check
 pub mod Candidates
 pub mod Compared
+pub mod Demand3

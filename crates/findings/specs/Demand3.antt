@@ -1,0 +1,62 @@
+-- What the theorems of demand 3 are said in, besides specs/Compared.antt.
+use Prim.Native.Nat.{ℕ, _≤_, _<_}
+use mathlib.Core.Bool.{Bool, true, false, _&&_}
+use mathlib.Core.List.{List, [], _∷_, Perm, List·Memᴰ}
+use mathlib.Core.Logic.{_≢_}
+use mathlib.Core.Path.{_≡_}
+use lib.Dec.{leb}
+use lib.ListN.{length}
+use Rattle.laws.specs.Lists.{upFrom}
+use Rattle.mesh.specs.Model.{Model, Raw, cellsOf}
+use Rattle.mesh.specs.Rings.{Face, keyOf, nodeSet}
+use Rattle.mesh.specs.Lookup.{faceAt, ownersOf}
+use Rattle.findings.specs.Findings.{Rules, Finding, bowtie, overfull, partly, repeated, common}
+use Rattle.findings.specs.Records.{fieldsOf}
+use Rattle.findings.specs.Compared.{namesPair, moved}
+
+-- ---- the condition of a partly shared pair, in words
+
+-- r is a ring of a and s one of b: their node sets differ, and three or more common nodes pass the area test
+pub record Sharing (R : Rules) (a b : Raw) (r s : List ℕ) : Type 0 where
+  pub ofA : List·Memᴰ r (R .rings a)
+  pub ofB : List·Memᴰ s (R .rings b)
+  pub unlike : nodeSet r ≢ nodeSet s
+  pub three : 3 ≤ length (common r s)
+  pub area : R .spans (common r s) ≡ true
+
+-- neither cell is a bow-tie, and some face of a and some face of b share so
+pub record PartlyShared (R : Rules) (a b : Raw) : Type 0 where
+  pub plainA : R .bow a ≡ false
+  pub plainB : R .bow b ≡ false
+  pub ringA : List ℕ
+  pub ringB : List ℕ
+  pub sharing : Sharing R a b ringA ringB
+
+-- ---- the findings of kind 3
+
+-- x is the pair of two of n cells, the lower first
+pub record PairIn (n : ℕ) (x : Finding) : Type 0 where
+  pub lower : fieldsOf x .first < fieldsOf x .second
+  pub within : fieldsOf x .second < n
+  pub named : namesPair (fieldsOf x .first) (fieldsOf x .second) x ≡ true
+
+-- ---- reordering
+
+-- no cell's kind is below that of the cell before it, the first's not below k
+abbrev pub ascending : ℕ → List Raw → Bool
+ascending k [] = true
+ascending k (c ∷ cs) = leb k (c .kind) && ascending (c .kind) cs
+
+-- σ has the number of each cell of m once, and leaves kinds ascending
+pub record Reordering (m : Model) (σ : List ℕ) : Type 0 where
+  pub permutes : Perm σ (upFrom 0 (length (cellsOf m)))
+  pub ascends : ascending 0 (moved σ (cellsOf m)) ≡ true
+
+-- ---- what the record of an overfull face tells
+
+-- key and owners are those of the face of its number, and there is such a face
+unfoldable pub Told : List Face → Finding → Type 0
+Told fs (bowtie c) = Unit
+Told fs (overfull c₁ c₂ f n k os) = (f < length fs) × (k ≡ keyOf (faceAt fs f)) × (os ≡ ownersOf fs f)
+Told fs (partly c₁ c₂ a b ns) = Unit
+Told fs (repeated c a b) = Unit
