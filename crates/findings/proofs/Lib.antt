@@ -6,3 +6,4 @@ pub mod Reorder
 pub mod Exact
 pub mod Only
 pub mod Means
+pub mod Told
