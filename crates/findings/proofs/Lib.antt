@@ -7,3 +7,5 @@ pub mod Exact
 pub mod Only
 pub mod Means
 pub mod Told
+pub mod Accepted
+pub mod Moved
