@@ -9,7 +9,7 @@ use native.Mathlib.Numerals.{add-one}
 use native.Mathlib.Omega.{arith}
 use lib.ListN.{length, getD, length-append}
 use lib.Seq.{getD-append-seam}
-use Rattle.laws.specs.Lists.{onlyIf, any, each, walk, keep, upFrom}
+use Rattle.laws.specs.Lists.{onlyIf, any, first, last, each, walk, keep}
 use Rattle.laws.proofs.Tests.{tested}
 use Rattle.laws.proofs.Permutations.{perm-ind}
 
@@ -117,3 +117,60 @@ module _ {ℓ κ} {A : Type ℓ} (P : A → Type κ) where
   unfolding Every
   every-mem (List·Memᴰ·head e) h = subst P (sym e) (h .0)
   every-mem (List·Memᴰ·tail m) h = every-mem m (h .1)
+
+  -- of the joined list, so of both parts
+  pub every-parts : (xs ys : List A) → Every P (xs ++ ys) → Every P xs × Every P ys
+  unfolding Every
+  every-parts [] ys h = (tt, h)
+  every-parts (x ∷ xs) ys h = let r = every-parts xs ys (h .1) in ((h .0, r .0), r .1)
+
+  -- of every element that has a place in the whole
+  pub every-split : (whole : List A) → ((a : List A) (x : A) (b : List A) → a ++ (x ∷ b) ≡ whole → P x) → (pre l : List A) → pre ++ l ≡ whole → Every P l
+  unfolding Every
+  every-split whole h pre [] e = tt
+  every-split whole h pre (x ∷ l) e = (h pre x l e, every-split whole h (pre ++ (x ∷ [])) l (append-assoc pre (x ∷ []) l ∙ e))
+
+  -- of those kept
+  pub every-keep : (p : A → Bool) (l : List A) → Every P l → Every P (keep p l)
+  unfolding Every
+  every-keep p [] h = tt
+  every-keep p (x ∷ l) h = every-append (onlyIf (p x) (x ∷ [])) (keep p l) (every-onlyIf (p x) (x ∷ []) (h .0, tt)) (every-keep p l (h .1))
+
+  -- of the first
+  pub every-first : (l : List A) → Every P l → Every P (first l)
+  unfolding Every
+  every-first [] h = tt
+  every-first (x ∷ l) h = (h .0, tt)
+
+  -- of the last
+  pub every-last : (l : List A) → Every P l → Every P (last l)
+  unfolding Every
+  every-last [] h = tt
+  every-last (x ∷ []) h = h
+  every-last (x ∷ y ∷ l) h = every-last (y ∷ l) (h .1)
+
+module _ {ℓ κ μ} {A : Type ℓ} {B : Type μ} (P : A → Type κ) where
+  -- of each list, and of the lists one after the other
+  pub every-each-parts : (f : B → List A) (l : List B) → Every P (each f l) → Every (λ x. Every P (f x)) l
+  unfolding Every
+  every-each-parts f [] h = tt
+  every-each-parts f (x ∷ l) h = let r = every-parts P (f x) (each f l) h in (r .0, every-each-parts f l (r .1))
+
+module _ {ℓ κ μ ν} {A : Type ℓ} {B : Type μ} (Q : B → Type ν) (P : A → Type κ) where
+  -- of the image of each that has Q
+  pub every-map-in : (f : B → A) → ((x : B) → Q x → P (f x)) → (l : List B) → Every Q l → Every P (map f l)
+  unfolding Every
+  every-map-in f h [] w = tt
+  every-map-in f h (x ∷ l) w = (h x (w .0), every-map-in f h l (w .1))
+
+  -- of each step from an element that has Q
+  pub every-walk-each : (f : List B → B → List B → List A) → ((a : List B) (x : B) (b : List B) → Q x → Every P (f a x b)) → (pre l : List B) → Every Q l → Every P (walk f pre l)
+  unfolding Every
+  every-walk-each f h pre [] w = tt
+  every-walk-each f h pre (x ∷ l) w = every-append P (f pre x l) (walk f (pre ++ (x ∷ [])) l) (h pre x l (w .0)) (every-walk-each f h (pre ++ (x ∷ [])) l (w .1))
+
+  -- of each list from an element that has Q
+  pub every-each : (f : B → List A) → ((x : B) → Q x → Every P (f x)) → (l : List B) → Every Q l → Every P (each f l)
+  unfolding Every
+  every-each f h [] w = tt
+  every-each f h (x ∷ l) w = every-append P (f x) (each f l) (h x (w .0)) (every-each f h l (w .1))

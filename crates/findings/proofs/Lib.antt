@@ -9,3 +9,5 @@ pub mod Means
 pub mod Told
 pub mod Accepted
 pub mod Moved
+pub mod Small
+pub mod Same

@@ -1,17 +1,17 @@
 -- What the theorems of demand 3 are said in, besides specs/Compared.antt.
 use Prim.Native.Nat.{ℕ, _≤_, _<_}
-use mathlib.Core.Bool.{Bool, true, false, _&&_}
+use mathlib.Core.Bool.{Bool, true, false, cond, _&&_}
 use mathlib.Core.List.{List, [], _∷_, Perm, List·Memᴰ}
 use mathlib.Core.Logic.{_≢_}
 use mathlib.Core.Path.{_≡_}
-use lib.Dec.{leb}
-use lib.ListN.{length}
+use lib.Dec.{leb, eqb}
+use lib.ListN.{length, getD}
 use Rattle.laws.specs.Lists.{upFrom}
 use Rattle.mesh.specs.Model.{Model, Raw, cellsOf}
 use Rattle.mesh.specs.Rings.{Face, keyOf, nodeSet}
 use Rattle.mesh.specs.Lookup.{faceAt, ownersOf}
 use Rattle.findings.specs.Findings.{Rules, Finding, bowtie, overfull, partly, repeated, common}
-use Rattle.findings.specs.Records.{fieldsOf}
+use Rattle.findings.specs.Records.{Fields, fieldsOf}
 use Rattle.findings.specs.Compared.{namesPair, moved}
 
 -- ---- the condition of a partly shared pair, in words
@@ -52,11 +52,36 @@ pub record Reordering (m : Model) (σ : List ℕ) : Type 0 where
   pub permutes : Perm σ (upFrom 0 (length (cellsOf m)))
   pub ascends : ascending 0 (moved σ (cellsOf m)) ≡ true
 
--- ---- what the record of an overfull face tells
+-- ---- what the record of a finding tells, with the model's faces
 
--- key and owners are those of the face of its number, and there is such a face
+-- an overfull face: its key, its owners, their number and the first two are those of the face of its number
+pub record OverfullTold (fs : List Face) (c₁ c₂ f n : ℕ) (k os : List ℕ) : Type 0 where
+  pub within : f < length fs
+  pub key : k ≡ keyOf (faceAt fs f)
+  pub owners : os ≡ ownersOf fs f
+  pub count : n ≡ length os
+  pub first : c₁ ≡ getD os 0 0
+  pub second : c₂ ≡ getD os 1 0
+
+-- a partly shared pair: its cells and common nodes are those of the faces of its numbers
+pub record PartlyTold (fs : List Face) (c₁ c₂ a b : ℕ) (ns : List ℕ) : Type 0 where
+  pub withinA : a < length fs
+  pub withinB : b < length fs
+  pub cellA : c₁ ≡ faceAt fs a .cell
+  pub cellB : c₂ ≡ faceAt fs b .cell
+  pub nodes : ns ≡ common (faceAt fs a .ring) (faceAt fs b .ring)
+
+-- of the other kinds the record has all
 unfoldable pub Told : List Face → Finding → Type 0
 Told fs (bowtie c) = Unit
-Told fs (overfull c₁ c₂ f n k os) = (f < length fs) × (k ≡ keyOf (faceAt fs f)) × (os ≡ ownersOf fs f)
-Told fs (partly c₁ c₂ a b ns) = Unit
+Told fs (overfull c₁ c₂ f n k os) = OverfullTold fs c₁ c₂ f n k os
+Told fs (partly c₁ c₂ a b ns) = PartlyTold fs c₁ c₂ a b ns
 Told fs (repeated c a b) = Unit
+
+-- the finding read back from the fields of its record
+unfoldable pub readBack : List Face → Fields → Finding
+readBack fs r =
+    cond (eqb (r .kind) 1) (bowtie (r .first))
+    (cond (eqb (r .kind) 2) (overfull (getD (ownersOf fs (r .a)) 0 0) (getD (ownersOf fs (r .a)) 1 0) (r .a) (length (ownersOf fs (r .a))) (keyOf (faceAt fs (r .a))) (ownersOf fs (r .a)))
+    (cond (eqb (r .kind) 3) (partly (faceAt fs (r .a) .cell) (faceAt fs (r .b) .cell) (r .a) (r .b) (common (faceAt fs (r .a) .ring) (faceAt fs (r .b) .ring)))
+    (repeated (r .first) (r .a) (r .b))))
