@@ -80,6 +80,12 @@ Every P [] = Unit
 Every P (x ∷ l) = P x × Every P l
 
 module _ {ℓ κ} {A : Type ℓ} (P : A → Type κ) where
+  -- of all, so of those in a list
+  pub every-all : ((x : A) → P x) → (l : List A) → Every P l
+  unfolding Every
+  every-all h [] = tt
+  every-all h (x ∷ l) = (h x, every-all h l)
+
   -- of both parts, so of the joined list
   pub every-append : (xs ys : List A) → Every P xs → Every P ys → Every P (xs ++ ys)
   unfolding Every

@@ -3,6 +3,7 @@ pub mod Laws
 pub mod Nodes
 pub mod Faces
 pub mod Reorder
+pub mod ByKind
 pub mod Exact
 pub mod Only
 pub mod Means

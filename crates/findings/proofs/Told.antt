@@ -9,13 +9,14 @@ use lib.ListN.{length, getD, length-map}
 use Rattle.laws.specs.Lists.{onlyIf, any, first, each, walk, keep}
 use Rattle.laws.proofs.Tests.{tested}
 use Rattle.laws.proofs.ListLaws.{keep-append, eql-self}
-use Rattle.mesh.specs.Model.{Raw, contains, TOPOLOGY, BUTTERFLY}
+use Rattle.mesh.specs.Model.{Raw}
 use Rattle.mesh.specs.Rings.{Cell, Face, facesFrom, facesOf, faces, numbered, sameKey, keyOf}
 use Rattle.mesh.specs.Lookup.{faceAt, ownersOf}
-use Rattle.findings.specs.Findings.{Rules, Finding, bowtie, overfull, repeated, common, meets, overOf, overAt, meeting, partlyOf, pairAt, kind1, kind2, kind3, kind4, full}
+use Rattle.findings.specs.Findings.{Rules, Finding, overfull, common, meets, overOf, overAt, meeting, partlyOf, pairAt, kind3, full}
 use Rattle.findings.specs.Demand3.{Told}
-use Rattle.findings.proofs.Laws.{keep-nothing, Every, every-append, every-onlyIf, every-walk, every-walk-in, every-map, every-mem, every-split, every-first, every-each-parts, every-map-in, every-each}
+use Rattle.findings.proofs.Laws.{keep-nothing, Every, every-append, every-onlyIf, every-walk-in, every-mem, every-split, every-first, every-each-parts, every-map-in, every-each}
 use Rattle.findings.proofs.Faces.{face-walk, at-place}
+use Rattle.findings.proofs.ByKind.{every-full, every-bow, every-rep}
 
 -- a face has its own key
 same-self : (f : Face) → sameKey f f ≡ true
@@ -57,11 +58,6 @@ module _ (R : Rules) (cs : List Raw) where
             tt,
           )
       go (inr q) false = rw q tt
-
-  -- kind 1 has nothing to tell
-  told1 : (a : List Cell) (c : Cell) (b : List Cell) → Every (Told whole) (kind1 R a c b)
-  unfolding kind1 Every Told
-  told1 a c b = every-onlyIf (Told whole) (R .bow (c .raw)) (bowtie (c .num) ∷ []) (tt, tt)
 
   -- f is a face of cell c, at the place that is its number
   abbrev At : ℕ → Face → Type 0
@@ -121,24 +117,14 @@ module _ (R : Rules) (cs : List Raw) where
   told3 pre (c ∷ l) h =
       every-append (Told whole) (each (pairAt R c) l) _ (every-each Placed (Told whole) (pairAt R c) (λ b k. told-pair c b (h .0) k) l (h .1)) (told3 (pre ++ (c ∷ [])) l (h .1))
 
-  -- nor has kind 4
-  told4 : (a : List Cell) (c : Cell) (b : List Cell) → Every (Told whole) (kind4 R a c b)
-  unfolding kind4 Told
-  told4 a c b = every-map (Told whole) _ (λ p. tt) (R .repeats (c .raw))
-
   -- every finding
   told-full : (flags : ℕ) → Every (Told whole) (full R flags (numbered (R .rings) cs))
-  unfolding full faces Every
+  unfolding Told faces
   told-full flags =
       let ns = numbered (R .rings) cs in
-      let P = Told whole in
-      let t = contains flags TOPOLOGY in
-      let b = contains flags BUTTERFLY in
-      every-append P (onlyIf b (walk (kind1 R) [] ns)) _ (every-onlyIf P b (walk (kind1 R) [] ns) (every-walk P (kind1 R) told1 [] ns))
-      (every-append P (onlyIf t (walk (kind2 R) [] ns)) _
-      (every-onlyIf P t (walk (kind2 R) [] ns) (rw (face-walk R [] ns) (every-walk-in P overAt (faces (R .rings) ns) told-over [] (faces (R .rings) ns) refl)))
-      (every-append P (onlyIf t (walk (kind3 R) [] ns)) _ (every-onlyIf P t (walk (kind3 R) [] ns) (told3 [] ns (cells-placed ns all-placed)))
-      (every-append P (onlyIf t (walk (kind4 R) [] ns)) [] (every-onlyIf P t (walk (kind4 R) [] ns) (every-walk P (kind4 R) told4 [] ns)) tt)))
+      every-full R (Told whole) flags ns (λ t. every-bow R (Told whole) (λ c. tt) ns)
+      (λ t. rw (face-walk R [] ns) (every-walk-in (Told whole) overAt whole told-over [] whole refl))
+      (λ t. told3 [] ns (cells-placed ns all-placed)) (λ t. every-rep R (Told whole) (λ c a b. tt) ns)
 
 -- what any finding of the full list tells
 pub told : (R : Rules) (flags : ℕ) (cs : List Raw) (x : Finding) → List·Memᴰ x (full R flags (numbered (R .rings) cs)) → Told (faces (R .rings) (numbered (R .rings) cs)) x
