@@ -142,6 +142,13 @@ module _ {ℓ κ} {A : Type ℓ} (P : A → Type κ) where
   every-keep p [] h = tt
   every-keep p (x ∷ l) h = every-append (onlyIf (p x) (x ∷ [])) (keep p l) (every-onlyIf (p x) (x ∷ []) (h .0, tt)) (every-keep p l (h .1))
 
+  -- of the element at a place, and of the default
+  pub every-getD : (l : List A) (i : ℕ) (d : A) → P d → Every P l → P (getD l i d)
+  unfolding Every
+  every-getD [] i d u h = u
+  every-getD (x ∷ l) zero d u h = h .0
+  every-getD (x ∷ l) (suc i) d u h = every-getD l i d u (h .1)
+
   -- of the first
   pub every-first : (l : List A) → Every P l → Every P (first l)
   unfolding Every

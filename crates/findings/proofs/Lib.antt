@@ -11,4 +11,5 @@ pub mod Told
 pub mod Accepted
 pub mod Moved
 pub mod Small
+pub mod Fits
 pub mod Same

@@ -85,3 +85,11 @@ readBack fs r =
     (cond (eqb (r .kind) 2) (overfull (getD (ownersOf fs (r .a)) 0 0) (getD (ownersOf fs (r .a)) 1 0) (r .a) (length (ownersOf fs (r .a))) (keyOf (faceAt fs (r .a))) (ownersOf fs (r .a)))
     (cond (eqb (r .kind) 3) (partly (faceAt fs (r .a) .cell) (faceAt fs (r .b) .cell) (r .a) (r .b) (common (faceAt fs (r .a) .ring) (faceAt fs (r .b) .ring)))
     (repeated (r .first) (r .a) (r .b))))
+
+-- all numbers of a record are below n
+pub record Below (n : ℕ) (r : Fields) : Type 0 where
+  pub first : r .first < n
+  pub second : r .second < n
+  pub a : r .a < n
+  pub b : r .b < n
+  pub count : r .count < n
