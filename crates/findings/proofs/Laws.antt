@@ -169,6 +169,18 @@ module _ {ℓ κ μ} {A : Type ℓ} {B : Type μ} (P : A → Type κ) where
   every-each-parts f [] h = tt
   every-each-parts f (x ∷ l) h = let r = every-parts P (f x) (each f l) h in (r .0, every-each-parts f l (r .1))
 
+  -- of the elements, where it holds of their images
+  pub every-map-parts : (f : B → A) (l : List B) → Every P (map f l) → Every (λ x. P (f x)) l
+  unfolding Every
+  every-map-parts f [] h = tt
+  every-map-parts f (x ∷ l) h = (h .0, every-map-parts f l (h .1))
+
+-- what Q says of every element, P says too
+pub every-imp {ℓ κ ν} : {A : Type ℓ} (Q : A → Type ν) (P : A → Type κ) → ((x : A) → Q x → P x) → (l : List A) → Every Q l → Every P l
+unfolding Every
+every-imp Q P h [] w = tt
+every-imp Q P h (x ∷ l) w = (h x (w .0), every-imp Q P h l (w .1))
+
 module _ {ℓ κ μ ν} {A : Type ℓ} {B : Type μ} (Q : B → Type ν) (P : A → Type κ) where
   -- of the image of each that has Q
   pub every-map-in : (f : B → A) → ((x : B) → Q x → P (f x)) → (l : List B) → Every Q l → Every P (map f l)

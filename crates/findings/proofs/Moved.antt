@@ -148,7 +148,7 @@ module _ (m : Model) (σ : List ℕ) (h : Accepts m) (r : Reordering m σ) where
 -- ---- the work
 
 -- the rings of all faces are those of all cells
-rings-all : (i n : ℕ) (cs : List Raw) → map (λ f. f .ring) (faces ringsOf (numberFrom ringsOf i n cs)) ≡ each ringsOf cs
+pub rings-all : (i n : ℕ) (cs : List Raw) → map (λ f. f .ring) (faces ringsOf (numberFrom ringsOf i n cs)) ≡ each ringsOf cs
 unfolding faces facesOf numberFrom
 rings-all i n [] = refl
 rings-all i n (c ∷ cs) = simp (map-append, rings-of, rings-all (suc i) (n + length (ringsOf c)) cs)

@@ -14,12 +14,12 @@ use Rattle.laws.proofs.Tests.{tested}
 use Rattle.laws.proofs.ListLaws.{keep-length}
 use Rattle.geometry.specs.Coordinates.{nodeCount, countOff}
 use Rattle.mesh.specs.Model.{Model, Raw, TET4, HEX8, WEDGE6, PHED, cellsOf}
-use Rattle.mesh.specs.Rings.{separator, at, tetRings, hexRings, wedgeRings, onto, runs, phedRings, ringsOf}
+use Rattle.mesh.specs.Rings.{Face, separator, at, tetRings, hexRings, wedgeRings, onto, runs, phedRings, ringsOf, numbered}
 use Rattle.mesh.specs.Acceptance.{countWrong, nodeOff, facesIn}
 use Rattle.findings.specs.Rules.{pairLe, pairOf, repeatAt, repeatsOf}
-use Rattle.findings.proofs.Laws.{Every, every-append, every-parts, every-keep, every-last, every-map-in, every-walk-in}
+use Rattle.findings.proofs.Laws.{Every, every-imp, every-parts, every-keep, every-last, every-map-in, every-map-parts, every-each, every-walk-in}
 use Rattle.findings.proofs.Accepted.{or-parts, cellWrong, Accepts}
-use Rattle.findings.proofs.Moved.{cells-count, cells-words, faces-count}
+use Rattle.findings.proofs.Moved.{cells-count, cells-words, rings-all, faces-count}
 
 -- ---- how many faces
 
@@ -63,6 +63,58 @@ faces-few m h =
 -- and under 2^32 cells
 pub cells-few : (m : Model) → Accepts m → length (cellsOf m) < 4294967296
 cells-few m h = omega (arith, cells-count m h, ltb-false cellLimit (length (m .kinds)) (h .cells))
+
+-- ---- how long rings are
+
+-- a ring of at most n
+abbrev Upto : ℕ → List ℕ → Type 0
+Upto n r = length r ≤ n
+
+-- a run has at most as many as all words
+run-lengths : (ws : List ℕ) → Every (Upto (length ws)) (runs ws)
+unfolding Every
+run-lengths [] = (omega arith, tt)
+run-lengths (w ∷ ws) = go (eqb w separator) (runs ws) (every-imp (Upto (length ws)) (Upto (suc (length ws))) (λ r u. omega arith) (runs ws) (run-lengths ws)) (run-lengths ws)
+  where
+    go : (b : Bool) (l : List (List ℕ)) → Every (Upto (suc (length ws))) l → Every (Upto (length ws)) l → Every (Upto (suc (length ws))) (cond b ([] ∷ l) (onto w l))
+    go true l h k = (omega arith, h)
+    go false [] h k = (omega arith, tt)
+    go false (r ∷ l) h k = (omega (arith, k .0), h .1)
+
+-- a ring has at most four, or as many as all words
+ring-lengths : (c : Raw) → Every (Upto (length (c .words) + 4)) (ringsOf c)
+unfolding ringsOf Every
+ring-lengths c = go (eqb (c .kind) TET4) (eqb (c .kind) HEX8) (eqb (c .kind) WEDGE6) (eqb (c .kind) PHED)
+  where
+    go : (t h w p : Bool) → Every (Upto (length (c .words) + 4)) (cond t (at (c .words) tetRings) (cond h (at (c .words) hexRings) (cond w (at (c .words) wedgeRings) (cond p (phedRings (c .words)) []))))
+    go true h w p = omega arith
+    go false true w p = omega arith
+    go false false true p = omega arith
+    go false false false true =
+        every-imp (Upto (length (c .words))) (Upto (length (c .words) + 4)) (λ r u. omega arith) (phedRings (c .words))
+        (every-keep (Upto (length (c .words))) (λ r. leb 3 (length r)) (runs (c .words)) (run-lengths (c .words)))
+    go false false false false = tt
+
+-- a cell has at most as many words as all cells
+words-few : (M : ℕ) (cs : List Raw) → length (each (λ c. c .words) cs) ≤ M → Every (λ (c : Raw). length (c .words) ≤ M) cs
+unfolding Every
+words-few M [] h = tt
+words-few M (c ∷ cs) h =
+    let e = length-append (c .words) (each (λ c. c .words) cs) in
+    (omega arith, words-few M cs (omega arith))
+
+-- an accepted model's rings have under 2^32 nodes
+pub rings-short : (m : Model) → Accepts m → Every (λ (f : Face). length (f .ring) < 4294967296) (facesIn m)
+unfolding facesIn numbered
+rings-short m h =
+    let w : length (each (λ (c : Raw). c .words) (cellsOf m)) ≤ wordLimit = omega (arith, ap length (cells-words m h), ltb-false wordLimit (length (m .words)) (h .words)) in
+    every-map-parts Short (λ (f : Face). f .ring) (facesIn m)
+    (rw (rings-all 0 0 (cellsOf m))
+    (every-each (λ (c : Raw). length (c .words) ≤ wordLimit) Short ringsOf (λ c u. every-imp (Upto (length (c .words) + 4)) Short (λ r v. omega arith) (ringsOf c) (ring-lengths c)) (cellsOf m)
+    (words-few wordLimit (cellsOf m) w)))
+  where
+    Short : List ℕ → Type 0
+    Short r = length r < 4294967296
 
 -- ---- the nodes of repeated pairs
 
