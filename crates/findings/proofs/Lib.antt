@@ -13,3 +13,4 @@ pub mod Moved
 pub mod Small
 pub mod Fits
 pub mod Same
+pub mod Models

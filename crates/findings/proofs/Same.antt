@@ -1,24 +1,18 @@
 -- The record of a finding settles the finding: two of one full list with the same bytes are the same.
-use Prim.Native.Nat.{ℕ, zero, suc, _+_, _*_, _/_, _%_, _^_, _≤_, _<_}
-use mathlib.Core.Path.{_≡_, refl, sym, ap, ap₂, _∙_}
-use mathlib.Core.Bool.{Bool, true, false}
-use mathlib.Core.List.{List, [], _∷_, _++_, map, List·Memᴰ}
+use Prim.Native.Nat.{ℕ, zero, suc, _+_, _*_, _/_, _%_, _^_, _<_}
+use mathlib.Core.Path.{_≡_, refl, sym, ap, _∙_}
+use mathlib.Core.List.{List, [], _∷_, _++_}
 use native.Mathlib.Nat.{div-lt-iff-lt-mul, pow-suc}
 use native.Mathlib.Omega.{arith}
 use lib.Dec.{lit<}
 use lib.ListN.{length, getD, take, drop, replicate}
 use lib.Seq.{take-at, drop-at}
 use Rattle.laws.specs.Bytes.{number, bytes}
-use Rattle.laws.specs.Lists.{onlyIf, each, walk}
 use Rattle.geometry.specs.declared.Point.{Point}
-use Rattle.mesh.specs.Model.{Raw, contains, TOPOLOGY, BUTTERFLY}
-use Rattle.mesh.specs.Rings.{Cell, Face, keyOf, faces, numberFrom, numbered}
-use Rattle.mesh.specs.Lookup.{faceAt, ownersOf}
-use Rattle.findings.specs.Findings.{Rules, Finding, bowtie, overfull, partly, repeated, common, kind1, kind2, kind3, kind4, full}
-use Rattle.findings.specs.Records.{Fields, fieldsOf, pointBytes, recordBytes, recordOf}
-use Rattle.findings.specs.Demand3.{OverfullTold, PartlyTold, Told, readBack}
-use Rattle.findings.proofs.Laws.{Every, every-append, every-onlyIf, every-walk, every-walk-each, every-map-in, every-mem}
-use Rattle.findings.proofs.Small.{Low}
+use Rattle.mesh.specs.Rings.{Face}
+use Rattle.findings.specs.Findings.{Rules, Finding, bowtie, overfull, partly, repeated}
+use Rattle.findings.specs.Records.{Fields, fieldsOf, centreIn, pointBytes, recordBytes, recordOf}
+use Rattle.findings.specs.Demand3.{Told, readBack, Below}
 
 -- ---- bytes
 
@@ -72,3 +66,19 @@ read-back fs (bowtie c) t = refl
 read-back fs (overfull c₁ c₂ f n k os) t = let w = t .owners in let u = t .count in let p = t .first in let q = t .second in let v = t .key in cc
 read-back fs (partly c₁ c₂ a b ns) t = let p = t .cellA in let q = t .cellB in let v = t .nodes in cc
 read-back fs (repeated c a b) t = refl
+
+-- alike fields, all below 2^32, give the same finding
+back-alike : (fs : List Face) (r s : Fields) → Below 4294967296 r → Below 4294967296 s → Alike r s → readBack fs r ≡ readBack fs s
+unfolding readBack
+back-alike fs r s h k e =
+    let p = e .kind in
+    let q : r .first ≡ s .first = four (r .first) (s .first) (h .first) (k .first) (e .first) in
+    let t : r .a ≡ s .a = four (r .a) (s .a) (h .a) (k .a) (e .a) in
+    let u : r .b ≡ s .b = four (r .b) (s .b) (h .b) (k .b) (e .b) in
+    cc
+
+-- two findings that the faces tell, all their numbers below 2^32, with the same record
+pub same-record : (R : Rules) (fs : List Face) (x y : Finding) → Told fs x → Told fs y → Below 4294967296 (fieldsOf x) → Below 4294967296 (fieldsOf y) → recordOf R x ≡ recordOf R y → x ≡ y
+unfolding recordOf
+same-record R fs x y t u h k e =
+    read-back fs x t ∙ back-alike fs (fieldsOf x) (fieldsOf y) h k (alike (fieldsOf x) (fieldsOf y) (centreIn R x) (centreIn R y) e) ∙ sym (read-back fs y u)
