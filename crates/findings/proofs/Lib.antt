@@ -14,3 +14,5 @@ pub mod Small
 pub mod Fits
 pub mod Same
 pub mod Models
+pub mod Kept
+pub mod Demand3

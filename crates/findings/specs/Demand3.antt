@@ -1,17 +1,18 @@
 -- What the theorems of demand 3 are said in, besides specs/Compared.antt.
-use Prim.Native.Nat.{ℕ, _≤_, _<_}
+use Prim.Native.Nat.{ℕ, _/_, min, _≤_, _<_}
 use mathlib.Core.Bool.{Bool, true, false, cond, _&&_}
-use mathlib.Core.List.{List, [], _∷_, Perm, List·Memᴰ}
+use mathlib.Core.List.{List, [], _∷_, _++_, Perm, List·Memᴰ}
 use mathlib.Core.Logic.{_≢_}
 use mathlib.Core.Path.{_≡_}
 use lib.Dec.{leb, eqb}
-use lib.ListN.{length, getD}
-use Rattle.laws.specs.Lists.{upFrom}
+use lib.ListN.{length, getD, take, drop}
+use Rattle.laws.specs.Lists.{each, upFrom}
 use Rattle.mesh.specs.Model.{Model, Raw, cellsOf}
 use Rattle.mesh.specs.Rings.{Face, keyOf, nodeSet}
 use Rattle.mesh.specs.Lookup.{faceAt, ownersOf}
 use Rattle.findings.specs.Findings.{Rules, Finding, bowtie, overfull, partly, repeated, common}
-use Rattle.findings.specs.Records.{Fields, fieldsOf}
+use Rattle.findings.specs.Rules.{rulesOf, fullOf}
+use Rattle.findings.specs.Records.{Fields, fieldsOf, recordOf}
 use Rattle.findings.specs.Compared.{namesPair, moved}
 
 -- ---- the condition of a partly shared pair, in words
@@ -93,3 +94,11 @@ pub record Below (n : ℕ) (r : Fields) : Type 0 where
   pub a : r .a < n
   pub b : r .b < n
   pub count : r .count < n
+
+-- ---- what a report says
+
+-- t is the full list's length, k the least of cap, t and whole records lent, and the lent bytes are the first k records and then what was there
+pub record Reported (m : Model) (lent lent' : List ℕ) (t k : ℕ) : Type 0 where
+  pub total : t ≡ length (fullOf m)
+  pub kept : k ≡ min (m .cap) (min t (length lent / 64))
+  pub records : lent' ≡ each (recordOf (rulesOf m)) (take k (fullOf m)) ++ drop (length (each (recordOf (rulesOf m)) (take k (fullOf m)))) lent
