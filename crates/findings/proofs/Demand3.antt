@@ -22,7 +22,7 @@ use Rattle.findings.specs.Demand3.{PartlyShared, PairIn, Reordering, Tol
 use Rattle.findings.specs.declared.CheckAnswer.{CheckAnswer}
 use Rattle.findings.specs.declared.CheckAnswer.the-variants.{Report}
 use Rattle.findings.proofs.Exact.{exact}
-use Rattle.findings.proofs.Only.{only, unasked}
+use Rattle.findings.proofs.ByKind.{only, unasked}
 use Rattle.findings.proofs.Means.{shares-means}
 use Rattle.findings.proofs.Accepted.{accepts, accepted}
 use Rattle.findings.proofs.Moved.{moved-accepts, same-work, reordered-cells}

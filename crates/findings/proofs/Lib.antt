@@ -3,10 +3,9 @@ pub mod Laws
 pub mod Nodes
 pub mod Faces
 pub mod Reorder
-pub mod ByKind
 pub mod Exact
-pub mod Only
 pub mod Means
+pub mod ByKind
 pub mod Told
 pub mod Accepted
 pub mod Moved

@@ -21,4 +21,7 @@ common-comm r s =
 -- two rings meet either way round
 pub meets-comm : (spans : List ℕ → Bool) (r s : List ℕ) → meets spans r s ≡ meets spans s r
 unfolding meets sharing
-meets-comm spans r s = rw (eql-comm (distinct leb r) (distinct leb s), common-comm r s)
+meets-comm spans r s =
+    let unlike = eql-comm (distinct leb r) (distinct leb s) in
+    let alike = common-comm r s in
+    cc
