@@ -15,3 +15,4 @@ pub mod Same
 pub mod Models
 pub mod Kept
 pub mod Demand3
+pub mod Later

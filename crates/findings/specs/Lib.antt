@@ -6,3 +6,4 @@ pub mod Check
 pub mod Candidates
 pub mod Compared
 pub mod Demand3
+pub mod Later
