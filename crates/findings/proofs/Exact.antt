@@ -1,8 +1,8 @@
 -- The partly shared pairs, exactly: each two cells once or not at all, by the condition.
 use Prim.Native.Nat.{ℕ, zero, suc, _+_, _<_}
-use mathlib.Core.Path.{_≡_, refl, sym, ap, ap₂, _∙_, fun-ext}
+use mathlib.Core.Path.{_≡_, refl, ap, ap₂, _∙_, fun-ext}
 use mathlib.Core.Logic.{⊎-elim, _≢_}
-use mathlib.Core.Bool.{Bool, true, false, not, _&&_, _||_, cond, or-comm, and-false}
+use mathlib.Core.Bool.{Bool, true, false, not, _&&_, cond, or-comm, and-false}
 use mathlib.Core.List.{List, [], _∷_, _++_, map}
 use native.Mathlib.Omega.{arith}
 use native.Mathlib.Nat.{add-zero, zero-add}

@@ -1,18 +1,17 @@
 -- Faces of cells: their rings, their numbers, and overfull faces as one walk over all faces.
 use Prim.Native.Nat.{ℕ, zero, suc, _+_, _<_}
 use mathlib.Core.Path.{_≡_, refl, sym, ap, _∙_}
-use mathlib.Core.Bool.{Bool}
 use mathlib.Core.List.{List, [], _∷_, _++_, map, append-nil, map-append}
 use native.Mathlib.Nat.{add-zero, zero-add, suc-add}
 use native.Mathlib.Omega.{arith}
 use lib.ListN.{length, getD, length-append, List·getD-map}
 use lib.Seq.{getD-append-seam}
-use Rattle.laws.specs.Lists.{any, each, walk, upFrom}
+use Rattle.laws.specs.Lists.{any, walk, upFrom}
 use Rattle.laws.proofs.ListLaws.{each-append, walk-append, any-map, any-ext, getD-upFrom}
 use Rattle.mesh.specs.Model.{Raw}
 use Rattle.mesh.specs.Rings.{Cell, Face, facesFrom, facesOf, faces, numberFrom, numbered}
 use Rattle.mesh.specs.Lookup.{noFace, faceAt}
-use Rattle.findings.specs.Findings.{Rules, Finding, meets, meeting, overAt, kind2}
+use Rattle.findings.specs.Findings.{Rules, meets, meeting, overAt, kind2}
 use Rattle.findings.proofs.Laws.{occupied, occupied-onlyIf, occupied-each}
 
 -- the rings of a cell's faces are the cell's rings

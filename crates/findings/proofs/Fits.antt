@@ -1,13 +1,12 @@
 -- All numbers of a record are below a bound that the cells, the faces, the rings and the repeated nodes keep.
 use Prim.Native.Nat.{ℕ, suc, _+_, _≤_, _<_}
-use mathlib.Core.Path.{_≡_, refl, sym, ap, _∙_}
-use mathlib.Core.Logic.{_⊎_, inl, inr}
+use mathlib.Core.Path.{ap}
 use mathlib.Core.Bool.{Bool, true, false, cond}
-use mathlib.Core.List.{List, [], _∷_, _++_, map, List·Memᴰ}
+use mathlib.Core.List.{List, [], _∷_, List·Memᴰ}
 use native.Mathlib.Omega.{arith}
 use lib.Dec.{leb}
-use lib.ListN.{length, getD, length-map}
-use Rattle.laws.specs.Lists.{each, keep, elem, add, distinct}
+use lib.ListN.{length, length-map}
+use Rattle.laws.specs.Lists.{keep, elem, add}
 use Rattle.laws.proofs.ListLaws.{keep-length}
 use Rattle.mesh.specs.Model.{Raw}
 use Rattle.mesh.specs.Rings.{Cell, Face, facesFrom, facesOf, faces, numberFrom, numbered, nodeSet, sameKey}

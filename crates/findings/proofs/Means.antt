@@ -1,5 +1,5 @@
 -- The computed condition of a partly shared pair and the condition in words are the same.
-use Prim.Native.Nat.{ℕ, _≤_}
+use Prim.Native.Nat.{ℕ}
 use mathlib.Core.Path.{_≡_, sym, ap, _∙_}
 use mathlib.Core.Logic.{⊎-elim, _↔_}
 use mathlib.Core.Bool.{Bool, true, false, not, _&&_, false≢true}

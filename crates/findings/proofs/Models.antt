@@ -1,8 +1,8 @@
 -- The laws of the full list, said of models.
 use Prim.Native.Nat.{ℕ, _<_}
 use mathlib.Core.Path.{_≡_, refl, sym, ap, _∙_}
-use mathlib.Core.Logic.{_≢_, _↔_, ∥∥₁-elim, ⊎-elim}
-use mathlib.Core.Bool.{Bool, true, false, cond}
+use mathlib.Core.Logic.{_≢_, ∥∥₁-elim, ⊎-elim}
+use mathlib.Core.Bool.{true, false, cond}
 use mathlib.Core.List.{List, [], _∷_, map, Perm, List·Memᴰ}
 use native.Mathlib.Nat.{ℕ-set}
 use native.Mathlib.Omega.{arith}
@@ -10,25 +10,25 @@ use lib.Dec.{ltb}
 use lib.ListN.{length, getD, length-map}
 use Rattle.laws.specs.Lists.{any, keep, upFrom}
 use Rattle.laws.specs.Refusals.{refusal}
-use Rattle.laws.proofs.Tests.{tested, clash}
+use Rattle.laws.proofs.Tests.{tested}
 use Rattle.laws.proofs.Permutations.{perm-length}
 use Rattle.geometry.specs.Coordinates.{nodeCount}
 use Rattle.mesh.specs.Model.{Model, Raw, contains, TOPOLOGY, cellsOf}
-use Rattle.mesh.specs.Rings.{ringsOf, numbered}
+use Rattle.mesh.specs.Rings.{numbered}
 use Rattle.mesh.specs.Acceptance.{nodeOff, modelRefusal, facesIn}
 use Rattle.snap.specs.Weld.{weldedBy, weldedAll}
 use Rattle.findings.specs.Findings.{Finding, full}
 use Rattle.findings.specs.Rules.{repeatsOf, rulesWith, rulesOf, cellsIn, fullOf}
 use Rattle.findings.specs.Records.{fieldsOf, recordOf}
 use Rattle.findings.specs.Check.{checkRefusal}
-use Rattle.findings.specs.Compared.{none, shares, namesPair, moved, withCells, reordered, compared}
+use Rattle.findings.specs.Compared.{none, shares, namesPair, withCells, reordered, compared}
 use Rattle.findings.specs.Demand3.{PartlyShared, Reordering, Told, Below}
 use Rattle.findings.proofs.Laws.{Every, every-imp}
 use Rattle.findings.proofs.Reorder.{reordering}
 use Rattle.findings.proofs.Exact.{exact}
 use Rattle.findings.proofs.Means.{shares-means}
 use Rattle.findings.proofs.Told.{told}
-use Rattle.findings.proofs.Accepted.{Accepts, accepts}
+use Rattle.findings.proofs.Accepted.{accepts}
 use Rattle.findings.proofs.Moved.{reordered-cells, same-work, check-refusal, moved-accepts}
 use Rattle.findings.proofs.Small.{Low, faces-few, cells-few, rings-short, repeats-low, cells-nodes, nodes-few}
 use Rattle.findings.proofs.Fits.{below}

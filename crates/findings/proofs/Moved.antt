@@ -1,10 +1,10 @@
 -- A reordered model: its cells, that it is accepted, and the work that it needs.
-use Prim.Native.Nat.{ℕ, suc, _+_, _-_, _*_, _≤_}
+use Prim.Native.Nat.{ℕ, suc, _+_, _-_, _≤_}
 use mathlib.Core.Path.{_≡_, refl, sym, ap, ap₂, _∙_}
-use mathlib.Core.Logic.{∥∥₁-elim, ∥∥₁-map}
-use mathlib.Core.Bool.{Bool, true, false, _||_, Bool-set}
-use mathlib.Core.List.{List, [], _∷_, _++_, map, append-assoc, map-append, Perm, List·Permᴰ, List·Permᴰ·trans}
-use native.Mathlib.Nat.{ℕ-set, add-zero}
+use mathlib.Core.Logic.{∥∥₁-elim}
+use mathlib.Core.Bool.{Bool, false, Bool-set}
+use mathlib.Core.List.{List, [], _∷_, _++_, map, append-assoc, map-append, List·Permᴰ, List·Permᴰ·trans}
+use native.Mathlib.Nat.{ℕ-set}
 use native.Mathlib.Omega.{arith}
 use borrow.Author.Tests.{ltb-false, le-ltb, eqb-true, eq-eqb, not-false}
 use lib.Dec.{ltb, eqb}
@@ -12,17 +12,17 @@ use lib.ListN.{length, getD, take, drop, length-map, length-append, length-drop,
 use lib.Seq.{getD-append-seam, take-append-seam, drop-append-seam}
 use Rattle.laws.specs.Lists.{any, each, upFrom}
 use Rattle.laws.specs.Refusals.{refusal}
-use Rattle.laws.proofs.ListLaws.{each-map, map-each}
+use Rattle.laws.proofs.ListLaws.{each-map}
 use Rattle.laws.proofs.Permutations.{perm-eq, perm-each, perm-map, perm-length}
 use Rattle.geometry.specs.Coordinates.{nodeCount}
 use Rattle.mesh.specs.Model.{Model, Raw, cellsFrom, cellsOf}
 use Rattle.mesh.specs.Rings.{Face, ringsOf, facesOf, faces, numberFrom, numbered, ringWords}
-use Rattle.mesh.specs.Acceptance.{endsOff, modelRefusal, facesIn, workNeeded, modelTable, checkTable}
+use Rattle.mesh.specs.Acceptance.{endsOff, facesIn, workNeeded, modelTable}
 use Rattle.findings.specs.Compared.{none, moved, endsFrom, withCells, reordered}
 use Rattle.findings.specs.Demand3.{ascending, Reordering}
 use Rattle.findings.proofs.Laws.{any-perm, length-snoc}
 use Rattle.findings.proofs.Faces.{rings-of}
-use Rattle.findings.proofs.Accepted.{or-parts, clear-append, accepted-clear, cellWrong, Accepts, accepts, accepted}
+use Rattle.findings.proofs.Accepted.{or-parts, clear-append, accepted-clear, cellWrong, Accepts, accepted}
 
 -- ---- cells, ends and words turn into one another
 

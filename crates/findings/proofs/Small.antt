@@ -3,7 +3,7 @@ use Prim.Native.Nat.{ℕ, suc, _+_, _*_, _%_, _≤_, _<_}
 use mathlib.Core.Path.{_≡_, refl, sym, ap, _∙_}
 use mathlib.Core.Logic.{_⊎_, inl, inr}
 use mathlib.Core.Bool.{Bool, true, false, not, cond, _&&_, _||_, and-true}
-use mathlib.Core.List.{List, [], _∷_, _++_, map}
+use mathlib.Core.List.{List, [], _∷_}
 use native.Mathlib.Omega.{arith}
 use borrow.Author.Tests.{ltb-false, leb-false}
 use lib.Dec.{leb, ltb, eqb}
@@ -12,7 +12,7 @@ use Rattle.laws.specs.Lists.{any, each, walk, keep, last, add, distinct}
 use Rattle.laws.specs.Limits.{nodeLimit, cellLimit, wordLimit}
 use Rattle.laws.proofs.Tests.{tested}
 use Rattle.laws.proofs.ListLaws.{keep-length}
-use Rattle.geometry.specs.Coordinates.{nodeCount, countOff}
+use Rattle.geometry.specs.Coordinates.{nodeCount}
 use Rattle.mesh.specs.Model.{Model, Raw, TET4, HEX8, WEDGE6, PHED, cellsOf}
 use Rattle.mesh.specs.Rings.{Face, separator, at, tetRings, hexRings, wedgeRings, onto, runs, phedRings, ringsOf, numbered}
 use Rattle.mesh.specs.Acceptance.{countWrong, nodeOff, facesIn}
