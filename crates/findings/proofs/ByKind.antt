@@ -72,10 +72,11 @@ module _ (R : Rules) (P : Finding → Type 0) where
   unfolding kind4
   every-reps Q h pre cs w = every-walk-each Q P (kind4 R) (λ a c b q. h c q) pre cs w
 
-  -- of every finding of kinds 1 and 4, whatever the cell
+  -- of all bow-ties, whatever the cell
   pub every-bow : ((c : ℕ) → P (bowtie c)) → (cs : List Cell) → Every P (walk (kind1 R) [] cs)
   every-bow h cs = every-bows (λ c. Unit {0}) (λ c u. h (c .num)) [] cs (every-all (λ c. Unit {0}) (λ c. tt) cs)
 
+  -- and of all repeated nodes
   pub every-rep : ((c a b : ℕ) → P (repeated c a b)) → (cs : List Cell) → Every P (walk (kind4 R) [] cs)
   every-rep h cs =
       every-reps (λ c. Unit {0}) (λ c u. every-map P (λ (p : ℕ × ℕ). repeated (c .num) (p .0) (p .1)) (λ p. h (c .num) (p .0) (p .1)) (R .repeats (c .raw))) [] cs

@@ -154,6 +154,7 @@ pub kept-is : (m : Model) (lent : ℕ) → totalsOf m lent .kept ≡ min (m .cap
 unfolding totalsOf keptOf
 kept-is m lent = refl
 
+-- The bytes kept are these records.
 pub records-are : (m : Model) (k : ℕ) → keptBytes (rulesOf m) k (fullOf m) ≡ each (recordOf (rulesOf m)) (take k (fullOf m))
 unfolding keptBytes
 records-are m k = refl

@@ -68,6 +68,7 @@ Plain n (partly c₁ c₂ a b ns) = Unit
 Plain n (repeated c a b) = (c < n) × Low n (a, b)
 
 module _ (R : Rules) (cs : List Raw) (n : ℕ) where
+  -- all faces
   abbrev all : List Face
   all = faces (R .rings) (numbered (R .rings) cs)
 

@@ -102,6 +102,7 @@ every-face Q i n (r ∷ rs) w = (w .0, every-face Q i (suc n) rs (w .1))
 -- ---- one cell withdrawn: the findings that name neither it nor a key of its faces are the same
 
 module _ (R : Rules) (c : Cell) where
+  -- the test
   abbrev t : Finding → Bool
   t = away R c
 

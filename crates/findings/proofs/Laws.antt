@@ -72,6 +72,7 @@ module _ {ℓ κ} {A : Type ℓ} {B : Type κ} where
 
 -- ---- what holds of every element
 
+-- P of each element
 unfoldable pub Every {ℓ κ} : {A : Type ℓ} → (A → Type κ) → List A → Type (ℓ ⊔ κ)
 Every P [] = Unit
 Every P (x ∷ l) = P x × Every P l

@@ -42,9 +42,11 @@ full-of m = refl
 -- ---- a pair
 
 module _ (m : Model) (i j : ℕ) (asked : contains (m .flags) TOPOLOGY ≡ true) (differ : i ≢ j) (hi : i < length (cellsOf m)) (hj : j < length (cellsOf m)) where
+  -- the one cell
   abbrev a : Raw
   a = getD (cellsOf m) i none
 
+  -- the other
   abbrev b : Raw
   b = getD (cellsOf m) j none
 

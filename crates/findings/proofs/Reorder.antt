@@ -35,24 +35,31 @@ abbrev same : Keyed → Keyed → Bool
 same x y = eql (x .1) (y .1)
 
 module _ (R : Rules) where
+  -- kind 1 of a cell
   abbrev bowN : Named → List Compared
   bowN c = onlyIf (R .bow (c .1)) (bowtieC (c .0) ∷ [])
 
+  -- a cell's faces
   abbrev keyed : Named → List Keyed
   keyed c = map (λ r. (c .0, sort leb r)) (R .rings (c .1))
 
+  -- a face with those that have its key
   overN : Keyed → List Keyed → List Compared
   overN x rest = onlyIf (leb 2 (length rest)) (overfullC (x .1) (suc (length rest)) (R .centre (x .1)) (sort leb (x .0 ∷ map (λ y. y .0) rest)) ∷ [])
 
+  -- a face among all
   overAtN : List Keyed → Keyed → List Keyed → List Compared
   overAtN pre x post = onlyIf (not (any (same x) pre)) (overN x (keep (same x) post))
 
+  -- kind 3 of two cells
   abbrev pairN : Named → Named → List Compared
   pairN a b = onlyIf (shares R (a .1) (b .1)) (partlyC (sort leb (a .0 ∷ b .0 ∷ [])) ∷ [])
 
+  -- kind 4 of a cell
   abbrev repN : Named → List Compared
   repN c = map (λ (p : ℕ × ℕ). repeatedC (c .0) (p .0) (p .1) 2 (R .middle (p .0) (p .1))) (R .repeats (c .1))
 
+  -- all kinds
   allN : ℕ → List Named → List Compared
   allN flags cs =
       onlyIf (contains flags BUTTERFLY) (each bowN cs)
@@ -62,9 +69,11 @@ module _ (R : Rules) where
 -- ---- the compared list is settled by the cells' names, kinds and words
 
 module _ (R : Rules) (ρ : ℕ → ℕ) where
+  -- a cell by ρ's name for it
   abbrev named : Cell → Named
   named c = (ρ (c .num), c .raw)
 
+  -- a face by ρ's name for its cell, and its key
   abbrev key : Face → Keyed
   key f = (ρ (f .cell), sort leb (f .ring))
 
