@@ -1,5 +1,5 @@
 -- Demand 3, sentence by sentence. The proofs stand in the other files.
-use Prim.Native.Nat.{ℕ, _/_, min, _<_}
+use Prim.Native.Nat.{ℕ, _*_, _/_, min, _≤_, _<_}
 use mathlib.Core.Path.{_≡_, refl}
 use mathlib.Core.Logic.{_≢_, _↔_}
 use mathlib.Core.Bool.{true, false, cond}
@@ -29,7 +29,7 @@ use Rattle.findings.proofs.Moved.{moved-accepts, same-work, reordered-c
 use Rattle.findings.proofs.Same.{read-back}
 use Rattle.findings.proofs.Reorder.{reordering}
 use Rattle.findings.proofs.Models.{full-of, often, once, never, there, same-rules, same-findings, same-total, same-check, told-of, below-of, settled}
-use Rattle.findings.proofs.Kept.{report-is, same-answer, none-shared, all-kept}
+use Rattle.findings.proofs.Kept.{record-64, kept-64, kept-fits, lent-length, report-is, same-answer, none-shared, all-kept}
 
 -- ---- the pairs
 
@@ -158,6 +158,18 @@ kept-is m lent = refl
 pub records-are : (m : Model) (k : ℕ) → keptBytes (rulesOf m) k (fullOf m) ≡ each (recordOf (rulesOf m)) (take k (fullOf m))
 unfolding keptBytes
 records-are m k = refl
+
+-- A record has 64 bytes,
+pub record-length : (R : Rules) (x : Finding) → length (recordOf R x) ≡ 64
+record-length = record-64
+
+-- so those kept fit the bytes lent,
+pub kept-within : (m : Model) (lent : ℕ) → (length (keptBytes (rulesOf m) (totalsOf m lent .kept) (fullOf m)) ≡ 64 * totalsOf m lent .kept) × (64 * totalsOf m lent .kept ≤ lent)
+kept-within m lent = (kept-64 m lent, kept-fits m lent)
+
+-- which stay as many.
+pub lent-stays : (m : Model) (findings findings' work work' : List ℕ) (r : CheckAnswer) → Checking m findings findings' work work' r → length findings' ≡ length findings
+lent-stays = lent-length
 
 -- So a check that keeps its promise and answers with a report of t, k kept, says this.
 pub report-says : (m : Model) (findings findings' work work' : List ℕ) (t k : ℕ) → Checking m findings findings' work work' (Report t k) → Reported m findings findings' t k

@@ -1,12 +1,12 @@
 -- What the check answers and keeps, by its promise.
-use Prim.Native.Nat.{ℕ, _/_, min, _<_}
-use mathlib.Core.Path.{_≡_, sym, ap, ap₂, _∙_}
+use Prim.Native.Nat.{ℕ, _*_, _/_, min, _≤_, _<_}
+use mathlib.Core.Path.{_≡_, refl, sym, ap, ap₂, _∙_}
 use mathlib.Core.Logic.{_⊎_, inl, inr, _≢_}
-use mathlib.Core.Bool.{true, false}
-use mathlib.Core.List.{List, _++_}
+use mathlib.Core.Bool.{Bool, true, false, cond}
+use mathlib.Core.List.{List, [], _∷_, _++_}
 use native.Mathlib.Omega.{arith}
 use lib.Dec.{eqb}
-use lib.ListN.{length, getD, take, drop}
+use lib.ListN.{length, getD, take, drop, length-append, length-take, length-drop}
 use lib.Seq.{take-length}
 use Rattle.laws.specs.Lists.{each}
 use Rattle.laws.specs.Refusals.{refused, done, refusal, answer}
@@ -14,14 +14,47 @@ use Rattle.laws.proofs.Tests.{tested}
 use Rattle.laws.proofs.ListLaws.{keep-length}
 use Rattle.mesh.specs.Model.{Model, contains, TOPOLOGY, cellsOf}
 use Rattle.mesh.specs.Acceptance.{modelRefusal, checkTable}
+use Rattle.findings.specs.Findings.{Rules, Finding}
 use Rattle.findings.specs.Rules.{rulesOf, fullOf}
-use Rattle.findings.specs.Records.{recordOf, keptOf, keptBytes}
+use Rattle.findings.specs.Records.{recordBytes, recordOf, keptOf, keptBytes}
 use Rattle.findings.specs.Check.{Totals, totalsOf, checkRefusal, checkTold, Checking}
 use Rattle.findings.specs.Compared.{none, namesPair, withCells, reordered}
 use Rattle.findings.specs.Demand3.{PartlyShared, Reordering, Reported}
 use Rattle.findings.specs.declared.CheckAnswer.{CheckAnswer}
 use Rattle.findings.specs.declared.CheckAnswer.the-variants.{Refused, Report}
 use Rattle.findings.proofs.Models.{same-total, same-check, once}
+
+-- a record has 64 bytes
+pub record-64 : (R : Rules) (x : Finding) → length (recordOf R x) ≡ 64
+unfolding recordOf recordBytes
+record-64 R x = refl
+
+-- so many records have 64 times as many bytes
+records-64 : (R : Rules) (l : List Finding) → length (each (recordOf R) l) ≡ 64 * length l
+records-64 R [] = refl
+records-64 R (x ∷ l) = omega (arith, length-append (recordOf R x) (each (recordOf R) l), record-64 R x, records-64 R l)
+
+-- the bytes kept
+pub kept-64 : (m : Model) (lent : ℕ) → length (keptBytes (rulesOf m) (totalsOf m lent .kept) (fullOf m)) ≡ 64 * totalsOf m lent .kept
+unfolding totalsOf keptOf keptBytes
+kept-64 m lent =
+    omega (arith, records-64 (rulesOf m) (take (totalsOf m lent .kept) (fullOf m)), length-take (totalsOf m lent .kept) (fullOf m))
+
+-- fit the bytes lent
+pub kept-fits : (m : Model) (lent : ℕ) → 64 * totalsOf m lent .kept ≤ lent
+unfolding totalsOf keptOf
+kept-fits m lent = omega arith
+
+-- so a check leaves as many bytes as were lent
+pub lent-length : (m : Model) (f f' w w' : List ℕ) (r : CheckAnswer) → Checking m f f' w w' r → length f' ≡ length f
+lent-length m f f' w w' r c = ap length (c .findingsAre) ∙ go (eqb (checkRefusal m w) 0)
+  where
+    kept : List ℕ
+    kept = keptBytes (rulesOf m) (totalsOf m (length f) .kept) (fullOf m)
+
+    go : (b : Bool) → length (cond b (kept ++ drop (length kept) f) f) ≡ length f
+    go true = omega (arith, length-append kept (drop (length kept) f), length-drop (length kept) f, kept-64 m (length f), kept-fits m (length f))
+    go false = refl
 
 -- an answer that is no refusal: nothing was refused, and it is that answer
 told-done : {A : Type 0} (n : ℕ) (a b : A) → done a ≡ answer n b → (eqb n 0 ≡ true) × (a ≡ b)
