@@ -28,7 +28,7 @@ use Rattle.findings.proofs.Accepted.{accepts, accepted}
 use Rattle.findings.proofs.Moved.{moved-accepts, same-work, reordered-cells}
 use Rattle.findings.proofs.Same.{read-back}
 use Rattle.findings.proofs.Reorder.{reordering}
-use Rattle.findings.proofs.Models.{full-of, often, once, never, there, same-rules, same-findings, same-total, same-check, told-of, below-of, settled}
+use Rattle.findings.proofs.Models.{full-of, often, once, never, there, same-rules, same-findings, same-total, same-check, told-of, below-of, settled, same-form}
 use Rattle.findings.proofs.Kept.{record-64, kept-64, kept-fits, lent-length, report-is, same-answer, none-shared, all-kept}
 
 -- ---- the pairs
@@ -141,6 +141,10 @@ record-fits = below-of
 -- and two findings of one full list with the same record bytes are the same finding.
 pub record-settles : (m : Model) (x y : Finding) → modelRefusal m ≡ 0 → List·Memᴰ x (fullOf m) → List·Memᴰ y (fullOf m) → recordOf (rulesOf m) x ≡ recordOf (rulesOf m) y → x ≡ y
 record-settles = settled
+
+-- Comparing conflates nothing: two findings of one full list that compare alike are the same finding, so "each as often" counts findings.
+pub compared-settles : (m : Model) (x y : Finding) → List·Memᴰ x (fullOf m) → List·Memᴰ y (fullOf m) → compared (rulesOf m) (λ i. i) x ≡ compared (rulesOf m) (λ i. i) y → x ≡ y
+compared-settles = same-form
 
 -- ---- the kept list
 

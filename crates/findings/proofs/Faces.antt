@@ -4,8 +4,8 @@ use mathlib.Core.Path.{_≡_, refl, sym, ap, _∙_}
 use mathlib.Core.List.{List, [], _∷_, _++_, map, append-nil, map-append}
 use native.Mathlib.Nat.{add-zero, zero-add, suc-add}
 use native.Mathlib.Omega.{arith}
-use lib.ListN.{length, getD, length-append, List·getD-map}
-use lib.Seq.{getD-append-seam}
+use lib.ListN.{length, getD, take, length-append, List·getD-map}
+use lib.Seq.{getD-append-seam, take-at}
 use Rattle.laws.specs.Lists.{any, walk, upFrom}
 use Rattle.laws.proofs.ListLaws.{each-append, walk-append, any-map, any-ext, getD-upFrom}
 use Rattle.mesh.specs.Model.{Raw}
@@ -66,15 +66,24 @@ module _ (rings : Raw → List (List ℕ)) where
   nums-of i n (c ∷ cs) =
       simp (map-append, nums-from, length-append, length-from, nums-of (suc i) (n + length (rings c)) cs) (sym (up-append n (length (rings c)) _))
 
-  -- a face stands at the place that is its number
-  pub at-place : (cs : List Raw) (a : List Face) (f : Face) (b : List Face) → a ++ (f ∷ b) ≡ faces rings (numbered rings cs)
-      → (f .num < length (faces rings (numbered rings cs))) × (faceAt (faces rings (numbered rings cs)) (f .num) ≡ f)
+  -- a face's number, the face there, and how many come before it
+  place : (cs : List Raw) (a : List Face) (f : Face) (b : List Face) → a ++ (f ∷ b) ≡ faces rings (numbered rings cs)
+      → (f .num < length (faces rings (numbered rings cs))) × (faceAt (faces rings (numbered rings cs)) (f .num) ≡ f) × (f .num ≡ length a)
   unfolding numbered
-  at-place cs a f b e =
+  place cs a f b e =
       let W = faces rings (numbered rings cs) in
       let seam : getD W (length a) noFace ≡ f = ap (λ l. getD l (length a) noFace) (sym e) ∙ getD-append-seam a f b noFace in
       let below : length a < length W = omega (arith, length-append a (f ∷ b), ap length e) in
-      let place : f .num ≡ length a =
+      let at : f .num ≡ length a =
       ap (λ (g : Face). g .num) (sym seam) ∙ sym (List·getD-map (λ (g : Face). g .num) W (length a) noFace)
       ∙ ap (λ l. getD l (length a) 0) (nums-of 0 0 cs) ∙ getD-upFrom 0 (length W) (length a) 0 below ∙ zero-add (length a) in
-      (omega arith, ap (λ k. getD W k noFace) place ∙ seam)
+      (omega arith, ap (λ k. getD W k noFace) at ∙ seam, at)
+
+  -- a face stands at the place that is its number
+  pub at-place : (cs : List Raw) (a : List Face) (f : Face) (b : List Face) → a ++ (f ∷ b) ≡ faces rings (numbered rings cs)
+      → (f .num < length (faces rings (numbered rings cs))) × (faceAt (faces rings (numbered rings cs)) (f .num) ≡ f)
+  at-place cs a f b e = let p = place cs a f b e in (p .0, p .1)
+
+  -- and what comes before it is what comes before that place
+  pub before-place : (cs : List Raw) (a : List Face) (f : Face) (b : List Face) → a ++ (f ∷ b) ≡ faces rings (numbered rings cs) → take (f .num) (faces rings (numbered rings cs)) ≡ a
+  before-place cs a f b e = ap (take (f .num)) (sym e) ∙ take-at a (f ∷ b) (f .num) (sym (place cs a f b e .2))

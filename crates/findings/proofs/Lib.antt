@@ -12,6 +12,7 @@ pub mod Moved
 pub mod Small
 pub mod Fits
 pub mod Same
+pub mod Conflated
 pub mod Models
 pub mod Kept
 pub mod Demand3

@@ -33,6 +33,7 @@ use Rattle.findings.proofs.Moved.{reordered-cells, same-work, check-ref
 use Rattle.findings.proofs.Small.{Low, faces-few, cells-few, rings-short, repeats-low, cells-nodes, nodes-few}
 use Rattle.findings.proofs.Fits.{below}
 use Rattle.findings.proofs.Same.{same-record}
+use Rattle.findings.proofs.Conflated.{same-compared}
 
 -- the full list of a model
 pub full-of : (m : Model) → fullOf m ≡ full (rulesOf m) (m .flags) (numbered (rulesOf m .rings) (cellsOf m))
@@ -117,3 +118,7 @@ below-of m x e k =
 -- and its record settles it
 pub settled : (m : Model) (x y : Finding) → modelRefusal m ≡ 0 → List·Memᴰ x (fullOf m) → List·Memᴰ y (fullOf m) → recordOf (rulesOf m) x ≡ recordOf (rulesOf m) y → x ≡ y
 settled m x y e k l q = same-record (rulesOf m) (facesIn m) x y (told-of m x k) (told-of m y l) (below-of m x e k) (below-of m y e l) q
+
+-- and so does what is compared of it
+pub same-form : (m : Model) (x y : Finding) → List·Memᴰ x (fullOf m) → List·Memᴰ y (fullOf m) → compared (rulesOf m) (λ i. i) x ≡ compared (rulesOf m) (λ i. i) y → x ≡ y
+same-form m x y k l = same-compared (rulesOf m) (m .flags) (cellsOf m) x y (rw (full-of m) at k) (rw (full-of m) at l)

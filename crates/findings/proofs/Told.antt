@@ -15,7 +15,7 @@ use Rattle.mesh.specs.Lookup.{faceAt, ownersOf}
 use Rattle.findings.specs.Findings.{Rules, Finding, overfull, common, meets, overOf, overAt, meeting, partlyOf, pairAt, kind3, full}
 use Rattle.findings.specs.Demand3.{Told}
 use Rattle.findings.proofs.Laws.{keep-nothing, Every, every-append, every-onlyIf, every-walk-in, every-mem, every-split, every-first, every-each-parts, every-map-in, every-each}
-use Rattle.findings.proofs.Faces.{face-walk, at-place}
+use Rattle.findings.proofs.Faces.{face-walk, at-place, before-place}
 use Rattle.findings.proofs.ByKind.{every-full, every-bow, every-rep}
 
 -- a face has its own key
@@ -54,6 +54,7 @@ module _ (R : Rules) (cs : List Raw) where
               count = ap suc (sym (length-map (keep (sameKey f) b) (λ (g : Face). g .cell)));
               first = refl;
               second = refl;
+              foremost = ap₂ (λ (g : Face) (l : List Face). any (sameKey g) l) here (before-place (R .rings) cs a f b e) ∙ q;
             },
             tt,
           )

@@ -6,9 +6,9 @@ use mathlib.Core.Logic.{_≢_}
 use mathlib.Core.Path.{_≡_}
 use lib.Dec.{leb, eqb}
 use lib.ListN.{length, getD, take, drop}
-use Rattle.laws.specs.Lists.{each, upFrom}
+use Rattle.laws.specs.Lists.{any, each, upFrom}
 use Rattle.mesh.specs.Model.{Model, Raw, cellsOf}
-use Rattle.mesh.specs.Rings.{Face, keyOf, nodeSet}
+use Rattle.mesh.specs.Rings.{Face, keyOf, nodeSet, sameKey}
 use Rattle.mesh.specs.Lookup.{faceAt, ownersOf}
 use Rattle.findings.specs.Findings.{Rules, Finding, bowtie, overfull, partly, repeated, common}
 use Rattle.findings.specs.Rules.{rulesOf, fullOf}
@@ -55,7 +55,7 @@ pub record Reordering (m : Model) (σ : List ℕ) : Type 0 where
 
 -- ---- what the record of a finding tells, with the model's faces
 
--- an overfull face: its key, its owners, their number and the first two are those of the face of its number
+-- an overfull face: its key, its owners, their number and the first two are those of the face of its number, which is the first with its key
 pub record OverfullTold (fs : List Face) (c₁ c₂ f n : ℕ) (k os : List ℕ) : Type 0 where
   pub within : f < length fs
   pub key : k ≡ keyOf (faceAt fs f)
@@ -63,6 +63,7 @@ pub record OverfullTold (fs : List Face) (c₁ c₂ f n : ℕ) (k os : List ℕ)
   pub count : n ≡ length os
   pub first : c₁ ≡ getD os 0 0
   pub second : c₂ ≡ getD os 1 0
+  pub foremost : any (sameKey (faceAt fs f)) (take f fs) ≡ false
 
 -- a partly shared pair: its cells and common nodes are those of the faces of its numbers
 pub record PartlyTold (fs : List Face) (c₁ c₂ a b : ℕ) (ns : List ℕ) : Type 0 where
