@@ -5,3 +5,5 @@ pub mod Records
 pub mod Check
 pub mod Candidates
 pub mod Compared
+pub mod Demand3
+pub mod Later

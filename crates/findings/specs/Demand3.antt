@@ -1,0 +1,105 @@
+-- What the theorems of demand 3 are said in, besides specs/Compared.antt.
+use Prim.Native.Nat.{ℕ, _/_, min, _≤_, _<_}
+use mathlib.Core.Bool.{Bool, true, false, cond, _&&_}
+use mathlib.Core.List.{List, [], _∷_, _++_, Perm, List·Memᴰ}
+use mathlib.Core.Logic.{_≢_}
+use mathlib.Core.Path.{_≡_}
+use lib.Dec.{leb, eqb}
+use lib.ListN.{length, getD, take, drop}
+use Rattle.laws.specs.Lists.{any, each, upFrom}
+use Rattle.mesh.specs.Model.{Model, Raw, cellsOf}
+use Rattle.mesh.specs.Rings.{Face, keyOf, nodeSet, sameKey}
+use Rattle.mesh.specs.Lookup.{faceAt, ownersOf}
+use Rattle.findings.specs.Findings.{Rules, Finding, bowtie, overfull, partly, repeated, common}
+use Rattle.findings.specs.Rules.{rulesOf, fullOf}
+use Rattle.findings.specs.Records.{Fields, fieldsOf, recordOf}
+use Rattle.findings.specs.Compared.{namesPair, moved}
+
+-- ---- the condition of a partly shared pair, in words
+
+-- r is a ring of a and s one of b: their node sets differ, and three or more common nodes pass the area test
+pub record Sharing (R : Rules) (a b : Raw) (r s : List ℕ) : Type 0 where
+  pub ofA : List·Memᴰ r (R .rings a)
+  pub ofB : List·Memᴰ s (R .rings b)
+  pub unlike : nodeSet r ≢ nodeSet s
+  pub three : 3 ≤ length (common r s)
+  pub area : R .spans (common r s) ≡ true
+
+-- neither cell is a bow-tie, and some face of a and some face of b share so
+pub record PartlyShared (R : Rules) (a b : Raw) : Type 0 where
+  pub plainA : R .bow a ≡ false
+  pub plainB : R .bow b ≡ false
+  pub ringA : List ℕ
+  pub ringB : List ℕ
+  pub sharing : Sharing R a b ringA ringB
+
+-- ---- the findings of kind 3
+
+-- x is the pair of two of n cells, the lower first
+pub record PairIn (n : ℕ) (x : Finding) : Type 0 where
+  pub lower : fieldsOf x .first < fieldsOf x .second
+  pub within : fieldsOf x .second < n
+  pub named : namesPair (fieldsOf x .first) (fieldsOf x .second) x ≡ true
+
+-- ---- reordering
+
+-- no cell's kind is below that of the cell before it, the first's not below k
+abbrev pub ascending : ℕ → List Raw → Bool
+ascending k [] = true
+ascending k (c ∷ cs) = leb k (c .kind) && ascending (c .kind) cs
+
+-- σ has the number of each cell of m once, and leaves kinds ascending
+pub record Reordering (m : Model) (σ : List ℕ) : Type 0 where
+  pub permutes : Perm σ (upFrom 0 (length (cellsOf m)))
+  pub ascends : ascending 0 (moved σ (cellsOf m)) ≡ true
+
+-- ---- what the record of a finding tells, with the model's faces
+
+-- an overfull face: its key, its owners, their number and the first two are those of the face of its number, which is the first with its key
+pub record OverfullTold (fs : List Face) (c₁ c₂ f n : ℕ) (k os : List ℕ) : Type 0 where
+  pub within : f < length fs
+  pub key : k ≡ keyOf (faceAt fs f)
+  pub owners : os ≡ ownersOf fs f
+  pub count : n ≡ length os
+  pub first : c₁ ≡ getD os 0 0
+  pub second : c₂ ≡ getD os 1 0
+  pub foremost : any (sameKey (faceAt fs f)) (take f fs) ≡ false
+
+-- a partly shared pair: its cells and common nodes are those of the faces of its numbers
+pub record PartlyTold (fs : List Face) (c₁ c₂ a b : ℕ) (ns : List ℕ) : Type 0 where
+  pub withinA : a < length fs
+  pub withinB : b < length fs
+  pub cellA : c₁ ≡ faceAt fs a .cell
+  pub cellB : c₂ ≡ faceAt fs b .cell
+  pub nodes : ns ≡ common (faceAt fs a .ring) (faceAt fs b .ring)
+
+-- of the other kinds the record has all
+unfoldable pub Told : List Face → Finding → Type 0
+Told fs (bowtie c) = Unit
+Told fs (overfull c₁ c₂ f n k os) = OverfullTold fs c₁ c₂ f n k os
+Told fs (partly c₁ c₂ a b ns) = PartlyTold fs c₁ c₂ a b ns
+Told fs (repeated c a b) = Unit
+
+-- the finding read back from the fields of its record
+unfoldable pub readBack : List Face → Fields → Finding
+readBack fs r =
+    cond (eqb (r .kind) 1) (bowtie (r .first))
+    (cond (eqb (r .kind) 2) (overfull (getD (ownersOf fs (r .a)) 0 0) (getD (ownersOf fs (r .a)) 1 0) (r .a) (length (ownersOf fs (r .a))) (keyOf (faceAt fs (r .a))) (ownersOf fs (r .a)))
+    (cond (eqb (r .kind) 3) (partly (faceAt fs (r .a) .cell) (faceAt fs (r .b) .cell) (r .a) (r .b) (common (faceAt fs (r .a) .ring) (faceAt fs (r .b) .ring)))
+    (repeated (r .first) (r .a) (r .b))))
+
+-- all numbers of a record are below n
+pub record Below (n : ℕ) (r : Fields) : Type 0 where
+  pub first : r .first < n
+  pub second : r .second < n
+  pub a : r .a < n
+  pub b : r .b < n
+  pub count : r .count < n
+
+-- ---- what a report says
+
+-- t is the full list's length, k the least of cap, t and whole records lent, and the lent bytes are the first k records and then what was there
+pub record Reported (m : Model) (lent lent' : List ℕ) (t k : ℕ) : Type 0 where
+  pub total : t ≡ length (fullOf m)
+  pub kept : k ≡ min (m .cap) (min t (length lent / 64))
+  pub records : lent' ≡ each (recordOf (rulesOf m)) (take k (fullOf m)) ++ drop (length (each (recordOf (rulesOf m)) (take k (fullOf m)))) lent
