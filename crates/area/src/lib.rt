@@ -78,7 +78,7 @@ fn direction(coords: &[f64], nodes: &[u32], o: Point, eps: f64) -> Heading
     let mut i = 1;
     while i < nodes.len() {
         let d = away(coords, nodes, o, i);
-        if geometry::size(d) > eps {
+        if geometry::longer(d, eps) {
             return Heading::Along(d);
         }
         i += 1;
@@ -90,7 +90,7 @@ fn direction(coords: &[f64], nodes: &[u32], o: Point, eps: f64) -> Heading
 fn thick_at(bound: f64, dir: Point, d: Point) -> bool
     ensures { λ r. ⌜ r ≡ lt bound (lengthOf (pointCross dir d)) ⌝ }
 {
-    geometry::size(geometry::cross(dir, d)) > bound
+    geometry::longer(geometry::cross(dir, d), bound)
 }
 
 // Some difference is thick.

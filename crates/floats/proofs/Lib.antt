@@ -9,5 +9,6 @@ pub mod Written
 pub mod Cases
 pub mod Small
 pub mod Monotone
+pub mod Over
 pub mod Bytes
 pub mod Constants

@@ -22,7 +22,7 @@ use Rattle.floats.proofs.Small.{larger-second, larger-first}
 
 -- ---- the order of finite values that are not below zero is that of their units
 
-units-lt : (x y : Float) → T (fits binary64 x) → T (fits binary64 y) → T (counted x) → T (counted y) → lt x y ≡ ltb (unitsIn x) (unitsIn y)
+pub units-lt : (x y : Float) → T (fits binary64 x) → T (fits binary64 y) → T (counted x) → T (counted y) → lt x y ≡ ltb (unitsIn x) (unitsIn y)
 unfolding lt
 units-lt nan y f g c d = absurd c
 units-lt (inf s) y f g c d = absurd c
@@ -47,7 +47,7 @@ units-lt (fin false m e) (fin false n k) f g c d =
 -- ---- the root is monotone
 
 -- 0 is its own root; everything else is above zero
-zero-or : (x : Float) → T (counted x) → ((unitsIn x ≡ 0) × (sqrt x ≡ x)) ⊎ T (positive x)
+pub zero-or : (x : Float) → T (counted x) → ((unitsIn x ≡ 0) × (sqrt x ≡ x)) ⊎ T (positive x)
 unfolding unitsIn sqrt
 zero-or nan c = absurd c
 zero-or (inf s) c = absurd c
@@ -90,7 +90,7 @@ grown nan = false
 grown (inf s) = not s
 grown (fin s m e) = not s
 
-not-grown : (z w : Float) → T (grown z) → grown w ≡ false → lt z w ≡ false
+pub not-grown : (z w : Float) → T (grown z) → grown w ≡ false → lt z w ≡ false
 unfolding lt
 not-grown nan w g e = absurd g
 not-grown (inf true) w g e = absurd g
@@ -119,18 +119,18 @@ root-low (fin true zero d) e = refl
 root-low (fin true (suc n) d) e = refl
 root-low (fin false n d) e = absurd (true≢false e)
 
-counted-grown : (z : Float) → T (counted z) → T (grown z)
+pub counted-grown : (z : Float) → T (counted z) → T (grown z)
 counted-grown nan c = c
 counted-grown (inf s) c = absurd c
 counted-grown (fin s m e) c = c
 
-top : (w : Float) → lt (inf false) w ≡ false
+pub top : (w : Float) → lt (inf false) w ≡ false
 unfolding lt
 top nan = refl
 top (inf t) = refl
 top (fin t n d) = refl
 
-under-top : (z : Float) → T (counted z) → lt z (inf false) ≡ true
+pub under-top : (z : Float) → T (counted z) → lt z (inf false) ≡ true
 unfolding lt
 under-top nan c = absurd c
 under-top (inf s) c = absurd c
