@@ -12,6 +12,7 @@ use Rattle.geometry.specs.Points.{pointDot, lengthOf}
 use Rattle.area.specs.AreaTest.{extentFrom, extentOf}
 use Rattle.area.specs.Steps.{mostFrom, mostOf}
 
+-- d · d fits
 dot-fits : (d : Point) → T (fits binary64 (pointDot d d))
 unfolding pointDot
 dot-fits d = add-fits binary64 (add binary64 (mul binary64 (d .x) (d .x)) (mul binary64 (d .y) (d .y))) (mul binary64 (d .z) (d .z))
@@ -21,19 +22,23 @@ extent-next : (m : Float) (d : Point) → T (fits binary64 m) → T (grown m) �
 unfolding lengthOf
 extent-next m d f g = sym (larger-root m (pointDot d d) f (dot-fits d) g)
 
+-- all of them
 extent-from : (m : Float) (ds : List Point) → T (fits binary64 m) → T (grown m) → extentFrom (sqrt m) ds ≡ sqrt (mostFrom m ds)
 extent-from m [] f g = refl
 extent-from m (d ∷ ds) f g =
     ap (λ (x : Float). extentFrom x ds) (extent-next m d f g)
     ∙ extent-from (largerOf m (pointDot d d)) ds (larger-fits m (pointDot d d) f (dot-fits d)) (larger-grown m (pointDot d d) g)
 
+-- 0 is its own root
 zero-root : sqrt zero64 ≡ zero64
 unfolding sqrt
 zero-root = refl
 
+-- 0 fits
 zero-fits : T (fits binary64 zero64)
 unfolding fits
 zero-fits = tt
 
+-- the extent is the root of the largest d · d
 pub extent-root : (ds : List Point) → sqrt (mostOf ds) ≡ extentOf ds
 extent-root ds = sym (ap (λ (x : Float). extentFrom x ds) (sym zero-root) ∙ extent-from zero64 ds zero-fits tt)

@@ -1,26 +1,27 @@
 -- A root is above e where the square of some x > e, rounded, is below the value: no root has to be found (`over-square`).
 use mathlib.Core.Path.{_≡_, refl, sym, ap, _∙_, subst}
-use mathlib.Core.Logic.{_⊎_, inl, inr, ⊎-elim}
-use mathlib.Core.Bool.{Bool, true, false, cond, _&&_, _||_, true≢false, false≢true}
-use Prim.Native.Nat.{ℕ, suc, _+_, _*_, _^_, _≤_, _<_}
-use native.Mathlib.Nat.{le-trans, le-of-eq, lt-irrefl, lt-of-lt-of-le, mul-assoc, mul-comm, mul-le-mul-right, mul-pos, zero-mul}
+use mathlib.Core.Logic.{⊎-elim}
+use mathlib.Core.Bool.{Bool, true, false, cond, true≢false}
+use Prim.Native.Nat.{ℕ, _+_, _*_, _^_, _≤_, _<_}
+use native.Mathlib.Nat.{le-trans, le-of-eq, lt-of-lt-of-le, mul-assoc, mul-le-mul-right, mul-pos, zero-mul}
 use native.Mathlib.Omega.{arith}
-use lib.Dec.{T, ltb, eqb, lit≤}
+use lib.Dec.{T, ltb}
 use lib.Pow.{pow-pos, pow-mono, shl-lt}
-use lib.Ieee.{Float, nan, inf, fin, binary64, up, down, odd, units, round, mul, lt, le, fits}
+use lib.Ieee.{Float, nan, inf, fin, binary64, up, down, odd, units, round, mul, lt, fits}
 use lib.Ieee.Exact.{HasValue, odd-sign, round-exact}
-use lib.Ieee.Fits.{core, round-is, round-fits}
+use lib.Ieee.Fits.{round-is, round-fits}
 use lib.Ieee.Order.{round-mono}
 use lib.Ieee.Positive.{positive, mul-at}
-use borrow.Author.Tests.{ltb-true, lt-ltb, eqb-true}
-use Rattle.laws.proofs.Tests.{tested, clash, split, or-cases, and-parts}
+use borrow.Author.Tests.{ltb-true, lt-ltb}
+use Rattle.laws.proofs.Tests.{tested, clash, split}
 use Rattle.floats.specs.Floats.{zero64}
 use Rattle.floats.specs.Root.{unitsIn, sqrt, counted, radicand}
 use Rattle.floats.proofs.Whole.{square-lt}
 use Rattle.floats.proofs.Fields.{units-of, units-exact, grid-of}
 use Rattle.floats.proofs.Nearest.{sqrt-nearest, same-units, counts}
-use Rattle.floats.proofs.Monotone.{units-lt, zero-or, grown, not-grown, counted-grown, top, under-top}
+use Rattle.floats.proofs.Monotone.{units-lt, zero-or, grown, not-grown, no-lower, counted-grown, top, under-top}
 
+-- what has the value a / c is finite and without a minus sign
 value-counted : (z : Float) (a c : ℕ) → HasValue z false a c → T (counted z)
 value-counted nan a c v = v
 value-counted (inf s) a c v = v
@@ -29,6 +30,7 @@ value-counted (fin false m e) a c v = tt
 
 -- ---- what is rounded from a fraction that is not below zero is not below zero
 
+-- so many units are not below zero
 units-grown : (q k : ℕ) → T (grown (units binary64 false q k))
 unfolding units
 units-grown q k = go (ltb (q * 2 ^ k) (2 ^ 2098))
@@ -37,43 +39,28 @@ units-grown q k = go (ltb (q * 2 ^ k) (2 ^ 2098))
     go true = counted-grown (odd 54 false q k 1074) (value-counted (odd 54 false q k 1074) (q * 2 ^ k) (2 ^ 1074) (odd-sign 54 false q k 1074))
     go false = tt
 
+-- nor is a fraction, rounded
 round-grown : (a c : ℕ) → T (grown (round binary64 false a c))
 round-grown a c = rw (round-is binary64 false a c) (units-grown _ _)
 
 -- ---- a value that is not below zero, rounded, is itself
 
+-- the fraction of a value's units, rounded, is the value
 round-self : (v : Float) → T (fits binary64 v) → T (counted v) → round binary64 false (unitsIn v) (2 ^ 1074) ≡ v
 round-self v f c =
     let g = grid-of v f c in
     let e = units-of v false (g .0 * 2 ^ g .1) (g .2) in
     let h = round-exact binary64 false (unitsIn v) (2 ^ 1074) (g .0) (g .1) (pow-pos 1074) (g .3)
-        (lt-of-lt-of-le (shl-lt 53 (g .1) (g .3)) (pow-mono (room (g .1) (g .4)))) (ap (λ (n : ℕ). n * 2 ^ 1074) e) in
+    (lt-of-lt-of-le (shl-lt 53 (g .1) (g .3)) (pow-mono (room (g .1) (g .4)))) (ap (λ (n : ℕ). n * 2 ^ 1074) e) in
     let r = round binary64 false (unitsIn v) (2 ^ 1074) in
     same-units r v (round-fits binary64 false (unitsIn v) (2 ^ 1074)) f (value-counted r (unitsIn v) (2 ^ 1074) h) c (units-of r false (unitsIn v) h)
   where
     room : (k : ℕ) → k ≤ 2045 → 53 + k ≤ 1074 + 1024
     room k h = omega arith
 
-so : (b : Bool) → T b → b ≡ true
-so true t = refl
-so false t = absurd t
-
-no-lower : (v t : Float) → T (counted v) → T (grown t) → T (le v t) → lt t v ≡ true → ⊥
-unfolding le lt
-no-lower nan t c g h l = c
-no-lower (inf s) t c g h l = c
-no-lower (fin true m e) t c g h l = c
-no-lower (fin false m e) nan c g h l = g
-no-lower (fin false m e) (inf true) c g h l = g
-no-lower (fin false m e) (inf false) c g h l = false≢true l
-no-lower (fin false m e) (fin true n d) c g h l = g
-no-lower (fin false m e) (fin false n d) c g h l = no (m * up e * down d) (n * up d * down e) h (ltb-true (n * up d * down e) (m * up e * down d) l)
-  where
-    no : (a b : ℕ) → T (ltb a b || (eqb a b && true)) → b < a → ⊥
-    no a b h l = ⊎-elim (λ p. omega (arith, ltb-true a b p)) (λ p. omega (arith, eqb-true a b (and-parts (eqb a b) true p .0))) (or-cases (ltb a b) (eqb a b && true) (so (ltb a b || (eqb a b && true)) h))
-
 -- ---- a square that is below v when rounded is below v
 
+-- in units: the square of x is below the radicand of v
 exact-over : (v x : Float) → T (fits binary64 v) → T (fits binary64 x) → T (counted v) → T (positive x) → lt (mul binary64 x x) v ≡ true → unitsIn x * unitsIn x < radicand v
 exact-over v x f g c p l = ⊎-elim (λ (h : unitsIn x * unitsIn x < radicand v). h) (λ (h : radicand v ≤ unitsIn x * unitsIn x). absurd (no h)) (split (unitsIn x * unitsIn x) (radicand v))
   where
@@ -82,7 +69,7 @@ exact-over v x f g c p l = ⊎-elim (λ (h : unitsIn x * unitsIn x < radicand v)
         let w = units-exact x g (counts x p) in
         let t = mul-at binary64 x x (unitsIn x) (2 ^ 1074) (unitsIn x) (2 ^ 1074) p p (pow-pos 1074) (pow-pos 1074) w w in
         let m = round-mono binary64 (unitsIn v) (2 ^ 1074) (unitsIn x * unitsIn x) (2 ^ 1074 * 2 ^ 1074) (pow-pos 1074) (mul-pos (pow-pos 1074) (pow-pos 1074))
-            (le-trans (le-of-eq (sym (mul-assoc (unitsIn v) (2 ^ 1074) (2 ^ 1074)))) (mul-le-mul-right (2 ^ 1074) h)) in
+        (le-trans (le-of-eq (sym (mul-assoc (unitsIn v) (2 ^ 1074) (2 ^ 1074)))) (mul-le-mul-right (2 ^ 1074) h)) in
         no-lower v (round binary64 false (unitsIn x * unitsIn x) (2 ^ 1074 * 2 ^ 1074)) c (round-grown (unitsIn x * unitsIn x) (2 ^ 1074 * 2 ^ 1074)) (rw (round-self v f c) at m) (rw t at l)
 
 -- and then x is at most the root
@@ -98,6 +85,7 @@ reaches-root v x f g q d h = ⊎-elim
     more : (u w : ℕ) → w < u → u + w < u + u
     more u w l = omega arith
 
+-- where all three are finite
 finite-over : (v e x : Float) → T (fits binary64 v) → T (fits binary64 e) → T (fits binary64 x) → T (counted v) → T (counted e) → T (counted x) → lt e x ≡ true → lt (mul binary64 x x) v ≡ true → lt e (sqrt v) ≡ true
 finite-over v e x f g k c d b l m = ⊎-elim (λ z. absurd (none (unitsIn e) (unitsIn x) below (z .0))) (λ p. ⊎-elim (λ z. absurd (nothing (z .0) (exact-over v x f k c p m))) (λ q. with-root q (reaches-root v x f k q b (exact-over v x f k c p m))) (zero-or v c)) (zero-or x b)
   where
@@ -120,6 +108,7 @@ finite-over v e x f g k c d b l m = ⊎-elim (λ z. absurd (none (unitsIn e) (un
 
 -- ---- for every v, e and x
 
+-- infinity squared
 square-top : mul binary64 (inf false) (inf false) ≡ inf false
 unfolding mul
 square-top = refl
@@ -132,6 +121,7 @@ over-x v e (inf false) f g k c d l m = clash (rw square-top at m) (top v)
 over-x v e (fin true n h) f g k c d l m = clash l (not-grown e (fin true n h) (counted-grown e d) refl)
 over-x v e (fin false n h) f g k c d l m = finite-over v e (fin false n h) f g k c d tt l m
 
+-- a square is not below zero
 square-grown : (x : Float) → T (grown x) → T (grown (mul binary64 x x))
 unfolding mul
 square-grown nan h = absurd h
@@ -140,9 +130,11 @@ square-grown (inf false) h = tt
 square-grown (fin true m e) h = absurd h
 square-grown (fin false m e) h = round-grown (m * up e * (m * up e)) (down e * down e)
 
+-- what is above such a value is one too
 grown-above : (e x : Float) → T (grown e) → lt e x ≡ true → T (grown x)
 grown-above e x g l = ⊎-elim (λ t. rw t tt) (λ t. clash l (not-grown e x g t)) (tested (grown x))
 
+-- v may be infinite
 over-v : (v e x : Float) → T (fits binary64 v) → T (fits binary64 e) → T (fits binary64 x) → T (grown v) → T (counted e) → lt e x ≡ true → lt (mul binary64 x x) v ≡ true → lt e (sqrt v) ≡ true
 unfolding sqrt
 over-v nan e x f g k h d l m = absurd h
@@ -150,6 +142,7 @@ over-v (inf true) e x f g k h d l m = absurd h
 over-v (inf false) e x f g k h d l m = under-top e d
 over-v (fin s n j) e x f g k h d l m = over-x (fin s n j) e x f g k h d l m
 
+-- e above zero, e < x and x * x < v: the root of v is above e
 pub over-square : (v e x : Float) → T (fits binary64 v) → T (fits binary64 e) → T (fits binary64 x) → lt zero64 e ≡ true → lt e x ≡ true → lt (mul binary64 x x) v ≡ true → lt e (sqrt v) ≡ true
 over-square v e x f g k z l m = go e g (grown-above zero64 e tt z) l
   where

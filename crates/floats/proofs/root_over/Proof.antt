@@ -10,7 +10,7 @@ use Rattle.floats.proofs.root_over.Statement.{statement}
 use Rattle.floats.proofs.root_over.Tie as tie
 
 returns : tie.Need-returns
-returns c = 
+returns c =
     let s = c .before .before .before in
     let a = s .args in
     sym (over-square (a .v) (a .e) (mul binary64 (a .e) (ofBits binary64 0x4000_0000_0000_0000)) (subst T (sym (s .good .0 .1)) tt) (subst T (sym (s .good .1 .0 .1)) tt) (mul-fits binary64 (a .e) (ofBits binary64 0x4000_0000_0000_0000)) (rw zero-bits at (c .before .before .if1 .taken)) (c .before .if2 .taken) (c .if3 .taken))
