@@ -18,9 +18,11 @@ use Rattle.area.specs.Steps.{awayFrom}
 -- ---- differences
 
 module _ (o : Point) (c : List Float) (ks : List ℕ) (i : ℕ) where
+  -- a turn of a loop over the nodes: one difference, and the rest
   pub away-next : i < length ks → awayFrom o (pointsOf c (drop i ks)) ≡ pointSub (pointAt c (getD ks i 0)) o ∷ awayFrom o (pointsOf c (drop (i + 1) ks))
   away-next h = ap (awayFrom o) (points-next c ks i h)
 
+  -- its end
   pub away-end : length ks ≤ i → awayFrom o (pointsOf c (drop i ks)) ≡ []
   away-end h = ap (awayFrom o) (points-end c ks i h)
 
@@ -35,34 +37,42 @@ differences c (k ∷ ks) h = refl
 -- ---- a difference that passes, and one that does not
 
 module _ (eps : Float) (d : Point) (ds : List Point) where
+  -- one that is long enough is the direction
   pub direction-found : lt eps (lengthOf d) ≡ true → directionOf eps (d ∷ ds) ≡ d ∷ []
   direction-found t = rw t
 
+  -- one that is not is passed over
   pub direction-next : lt eps (lengthOf d) ≡ false → directionOf eps (d ∷ ds) ≡ directionOf eps ds
   direction-next t = rw t
 
 module _ (bound : Float) (dir d : Point) (ds : List Point) where
+  -- one thick difference is enough
   pub thick-found : lt bound (lengthOf (pointCross dir d)) ≡ true → thickOf bound dir (d ∷ ds) ≡ true
   thick-found t = rw t
 
+  -- one that is not is passed over
   pub thick-next : lt bound (lengthOf (pointCross dir d)) ≡ false → thickOf bound dir (d ∷ ds) ≡ thickOf bound dir ds
   thick-next t = rw t
 
 -- ---- the answer
 
+-- fewer than three nodes
 pub few : (tol : Float) (c : List Float) (ks : List ℕ) → length ks < 3 → TooFew ≡ areaOf tol (pointsOf c ks)
 unfolding areaOf
 few tol c ks h = simp (points-length, lt-ltb (length ks) 3 h)
 
+-- three nodes or more
 pub enough : (tol : Float) (c : List Float) (ks : List ℕ) → 3 ≤ length ks
     → areaOf tol (pointsOf c ks) ≡ spreadOf (epsOf tol (scaleOf (pointsOf c ks))) (awayFrom (pointAt c (getD ks 0 0)) (pointsOf c (drop 1 ks)))
 unfolding areaOf
 enough tol c ks h = simp (points-length, le-ltb (length ks) 3 h, differences c ks (omega arith))
 
+-- the extent is eps at most
 pub together : (eps : Float) (ds : List Point) → le (extentOf ds) eps ≡ true → Together ≡ spreadOf eps ds
 unfolding spreadOf
 together eps ds t = simp t
 
+-- the extent is above eps
 pub apart : (eps : Float) (ds : List Point) → le (extentOf ds) eps ≡ false → spreadOf eps ds ≡ alongOf (mul binary64 eps (extentOf ds)) ds (directionOf eps ds)
 unfolding spreadOf
 apart eps ds t = simp t

@@ -1,3 +1,4 @@
 -- Laws of the area test.
+pub mod OneRoot
 pub mod Judged
 pub mod Refused

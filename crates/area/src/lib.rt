@@ -4,10 +4,10 @@ ghost use Prim.Native.Nat.{_<_, _≤_};
 ghost use lib.ListN.{length, getD, drop};
 ghost use lib.Ieee.{lt};
 ghost use Rattle.floats.specs.Floats.{largerOf};
-ghost use Rattle.geometry.specs.Points.{pointSub, pointCross, lengthOf, pointAt, pointsOf};
+ghost use Rattle.geometry.specs.Points.{pointSub, pointDot, pointCross, lengthOf, pointAt, pointsOf};
 ghost use Rattle.geometry.specs.Steps.{InNodes};
 ghost use Rattle.area.specs.AreaTest.{extentOf, directionOf, thickOf, areaOf, isSpans, listOff, areaAnswer, areaTold};
-ghost use Rattle.area.specs.Steps.{awayFrom, headed};
+ghost use Rattle.area.specs.Steps.{awayFrom, mostOf, headed};
 use geometry::Point;
 
 // What the area test says of a list of nodes.
@@ -41,17 +41,17 @@ fn away(coords: &[f64], nodes: &[u32], o: Point, i: usize) -> Point
     geometry::difference(geometry::point3(coords, nodes[i]), o)
 }
 
-// The larger of m and d's length.
+// The larger of m and d · d.
 fn reach(m: f64, d: Point) -> f64
-    ensures { λ r. ⌜ r ≡ largerOf m (lengthOf d) ⌝ }
+    ensures { λ r. ⌜ r ≡ largerOf m (pointDot d d) ⌝ }
 {
-    floats::larger(m, geometry::size(d))
+    floats::larger(m, geometry::dot(d, d))
 }
 
-// The largest length of the differences from o of the nodes after the first.
-fn extent(coords: &[f64], nodes: &[u32], o: Point) -> f64
+// The largest d · d of the differences from o of the nodes after the first.
+fn most(coords: &[f64], nodes: &[u32], o: Point) -> f64
     requires { ⌜ InNodes (now coords) (now nodes) × (1 ≤ length (now nodes)) ⌝ }
-    ensures { λ r. ⌜ r ≡ extentOf (awayFrom o (pointsOf (now (coords .entry)) (drop 1 (now (nodes .entry))))) ⌝ }
+    ensures { λ r. ⌜ r ≡ mostOf (awayFrom o (pointsOf (now (coords .entry)) (drop 1 (now (nodes .entry))))) ⌝ }
 {
     let mut m = 0.0;
     let mut i = 1;
@@ -62,6 +62,14 @@ fn extent(coords: &[f64], nodes: &[u32], o: Point) -> f64
     m
 }
 
+// The largest length of these differences: the root grows with d · d, so one root is enough.
+fn extent(coords: &[f64], nodes: &[u32], o: Point) -> f64
+    requires { ⌜ InNodes (now coords) (now nodes) × (1 ≤ length (now nodes)) ⌝ }
+    ensures { λ r. ⌜ r ≡ extentOf (awayFrom o (pointsOf (now (coords .entry)) (drop 1 (now (nodes .entry))))) ⌝ }
+{
+    floats::sqrt(most(coords, nodes, o))
+}
+
 // The first difference that is longer than eps.
 fn direction(coords: &[f64], nodes: &[u32], o: Point, eps: f64) -> Heading
     requires { ⌜ InNodes (now coords) (now nodes) × (1 ≤ length (now nodes)) ⌝ }
@@ -70,7 +78,7 @@ fn direction(coords: &[f64], nodes: &[u32], o: Point, eps: f64) -> Heading
     let mut i = 1;
     while i < nodes.len() {
         let d = away(coords, nodes, o, i);
-        if geometry::size(d) > eps {
+        if geometry::longer(d, eps) {
             return Heading::Along(d);
         }
         i += 1;
@@ -82,7 +90,7 @@ fn direction(coords: &[f64], nodes: &[u32], o: Point, eps: f64) -> Heading
 fn thick_at(bound: f64, dir: Point, d: Point) -> bool
     ensures { λ r. ⌜ r ≡ lt bound (lengthOf (pointCross dir d)) ⌝ }
 {
-    geometry::size(geometry::cross(dir, d)) > bound
+    geometry::longer(geometry::cross(dir, d), bound)
 }
 
 // Some difference is thick.

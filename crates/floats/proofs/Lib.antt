@@ -8,5 +8,7 @@ pub mod Nearest
 pub mod Written
 pub mod Cases
 pub mod Small
+pub mod Monotone
+pub mod Over
 pub mod Bytes
 pub mod Constants

@@ -69,7 +69,7 @@ module _ (x : Float) (n m h w : ℕ) (e : unitsIn x ≡ n) (s : Scaled n m h) (r
       some : 2 ^ 53 ≤ w → 0 < (w + 1) / 2
       some a = omega arith
 
-counts : (x : Float) → T (positive x) → T (counted x)
+pub counts : (x : Float) → T (positive x) → T (counted x)
 counts nan p = p
 counts (inf s) p = p
 counts (fin true m e) p = p
@@ -89,8 +89,8 @@ sqrt-nearest x f p =
     subst (λ (y : Float). NearestRoot x y) (sym (sqrt-positive x n N (g .2) ∙ root-at n m (s .1) (s .2)))
     (near x n m (s .1) (wholeRoot 54 (m * 2 ^ 54)) (units-of x false n (g .2)) (s .2) (radicand-root m (s .2 .low) (s .2 .high)))
 
--- ---- a value is known by its units
-bits-by-units : (y z : Float) → T (positive y) → T (positive z) → unitsIn y ≡ unitsIn z → toBits binary64 y ≡ toBits binary64 z
+-- ---- a value that is not below zero is known by its units
+bits-by-units : (y z : Float) → T (counted y) → T (counted z) → unitsIn y ≡ unitsIn z → toBits binary64 y ≡ toBits binary64 z
 unfolding unitsIn toBits
 bits-by-units nan z p q e = absurd p
 bits-by-units (inf s) z p q e = absurd p
@@ -100,19 +100,19 @@ bits-by-units (fin false m c) (inf t) p q e = absurd q
 bits-by-units (fin false m c) (fin true k d) p q e = absurd q
 bits-by-units (fin false m c) (fin false k d) p q e = ap (λ (n : ℕ). 0 + (size n - 53) * 2 ^ 52 + n / 2 ^ (size n - 53)) e
 
-pub same-units : (y z : Float) → T (fits binary64 y) → T (fits binary64 z) → T (positive y) → T (positive z) → unitsIn y ≡ unitsIn z → y ≡ z
+pub same-units : (y z : Float) → T (fits binary64 y) → T (fits binary64 z) → T (counted y) → T (counted z) → unitsIn y ≡ unitsIn z → y ≡ z
 same-units y z f g p q e = sym (ofBits-toBits binary64 y f) ∙ ap (ofBits binary64) (bits-by-units y z p q e) ∙ ofBits-toBits binary64 z g
 
 -- two nearest values: each is farther than the other, unless they are one
-clash : (R u v : ℕ) → R < (v + u) * (v + u) → (u + v) * (u + v) < R → ⊥
-clash R u v k l = omega arith
+pub crossed : (R u v : ℕ) → R < (v + u) * (v + u) → (u + v) * (u + v) < R → ⊥
+crossed R u v k l = omega arith
 
 not-over : (R u v : ℕ) → (u < v → R < (v + u) * (v + u)) → (u < v → (u + v) * (u + v) < R) → v ≤ u
-not-over R u v k l = ⊎-elim (λ (h : u < v). absurd (clash R u v (k h) (l h))) (λ (h : v ≤ u). h) (split u v)
+not-over R u v k l = ⊎-elim (λ (h : u < v). absurd (crossed R u v (k h) (l h))) (λ (h : v ≤ u). h) (split u v)
 
 pub nearest-unique : (x y z : Float) → NearestRoot x y → NearestRoot x z → y ≡ z
 nearest-unique x y z a b =
-    same-units y z (a .held) (b .held) (a .above) (b .above)
+    same-units y z (a .held) (b .held) (counts y (a .above)) (counts z (b .above))
     (le-antisymm (not-over (4 * radicand x) (unitsIn z) (unitsIn y) (b .upper y (a .held) (counts y (a .above))) (a .lower z (b .held) (counts z (b .above))))
     (not-over (4 * radicand x) (unitsIn y) (unitsIn z) (a .upper z (b .held) (counts z (b .above))) (b .lower y (a .held) (counts y (a .above)))))
 

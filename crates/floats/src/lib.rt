@@ -3,7 +3,7 @@ ghost use mathlib.Core.Path.{_≡_};
 ghost use Prim.Native.Nat.{ℕ, _+_, _*_, _-_, _%_, _^_, _≤_, _<_};
 ghost use lib.ListN.{length};
 ghost use lib.Seq.{slice, sets};
-ghost use lib.Ieee.{binary64, ofBits, toBits};
+ghost use lib.Ieee.{binary64, ofBits, toBits, lt};
 ghost use Rattle.laws.specs.Bytes.{number, bytes};
 ghost use Rattle.floats.specs.Floats.{absoluteOf, largerOf, floatOf, floatBytes};
 ghost use Rattle.floats.specs.Root.{rootOfUnits};
@@ -104,6 +104,21 @@ pub fn sqrt(x: f64) -> f64
         return x;
     }
     of_power(significand + 0x10_0000_0000_0000, exponent + 1073)
+}
+
+// The root of v is above e. Where v is far above the square of e, no root has to be found.
+pub fn root_over(v: f64, e: f64) -> bool
+    ensures { λ r. ⌜ r ≡ lt e (Spec.sqrt v) ⌝ }
+{
+    let x = e * 2.0;
+    if 0.0 < e {
+        if e < x {
+            if x * x < v {
+                return true;
+            }
+        }
+    }
+    sqrt(v) > e
 }
 
 // What the public operation on a root answers: the root, or a refusal.

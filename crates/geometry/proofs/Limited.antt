@@ -16,6 +16,7 @@ pub most-bits : ofBits binary64 4696837146684686336 ≡ coordinateMost
 unfolding ofBits ofFields odd
 most-bits = refl
 
+-- and the lower one
 pub least-bits : neg (ofBits binary64 4696837146684686336) ≡ coordinateLeast
 unfolding neg ofBits ofFields odd
 least-bits = refl

@@ -9,10 +9,12 @@ use lib.Seq.{drop-cons}
 use lib.Ieee.{Float}
 use Rattle.geometry.specs.Points.{origin, pointAt, pointsOf}
 
+-- as many points as nodes
 pub points-length : (c : List Float) (ks : List ℕ) → length (pointsOf c ks) ≡ length ks
 points-length c [] = refl
 points-length c (k ∷ ks) = ap suc (points-length c ks)
 
+-- the point of place i is that of the node there
 pub points-at : (c : List Float) (ks : List ℕ) (i : ℕ) → i < length ks → getD (pointsOf c ks) i origin ≡ pointAt c (getD ks i 0)
 points-at c [] i h = absurd (no h)
   where
@@ -25,5 +27,6 @@ points-at c (k ∷ ks) (suc i) h = points-at c ks i (omega arith)
 pub points-next : (c : List Float) (ks : List ℕ) (i : ℕ) → i < length ks → pointsOf c (drop i ks) ≡ pointAt c (getD ks i 0) ∷ pointsOf c (drop (i + 1) ks)
 points-next c ks i h = rw (add-one, drop-cons ks i 0)
 
+-- past the last node no point is left
 pub points-end : (c : List Float) (ks : List ℕ) (i : ℕ) → length ks ≤ i → pointsOf c (drop i ks) ≡ []
 points-end c ks i h = ap (pointsOf c) (drop-of-length-le ks h)

@@ -3,6 +3,7 @@
 ghost use mathlib.Core.Path.{_≡_};
 ghost use Prim.Native.Nat.{_*_, _+_, _<_, _≤_};
 ghost use lib.ListN.{length};
+ghost use lib.Ieee.{lt};
 ghost use Rattle.geometry.specs.Points.{pointSub, pointAdd, pointScale, pointDot, pointCross, lengthOf, midpointOf, pointAt, pointsOf, share, centreOf};
 ghost use Rattle.geometry.specs.Scale.{largestOf, scaleOf, epsOf};
 ghost use Rattle.geometry.specs.Coordinates.{countOff, toleranceOff, coordinateOff, coordinatesOff};
@@ -75,6 +76,13 @@ pub fn size(a: Point) -> f64
     ensures { λ r. ⌜ r ≡ lengthOf a ⌝ }
 {
     floats::sqrt(dot(a, a))
+}
+
+// The root of a · a is above e.
+pub fn longer(a: Point, e: f64) -> bool
+    ensures { λ r. ⌜ r ≡ lt e (lengthOf a) ⌝ }
+{
+    floats::root_over(dot(a, a), e)
 }
 
 // (a + b) / 2

@@ -1,7 +1,4 @@
 -- `area::away` meets its contract: what the two calls ensure.
-use mathlib.Core.Path.{ap, _∙_}
-use Rattle.geometry.specs.Points.{pointSub}
-use Rattle.geometry.specs.declared.Point.{Point}
 use borrow.Author.Needs.{needs}
 use Rattle.area.proofs.away.Statement.{statement}
 use Rattle.area.proofs.away.Tie as tie

@@ -4,10 +4,6 @@ use mathlib.Core.Path.{_≡_, refl, sym, ap, _∙_}
 use native.Mathlib.Omega.{arith}
 use lib.ListN.{length, drop}
 use Rattle.geometry.specs.Points.{pointsOf}
-use mathlib.Core.Bool.{true, false}
-use lib.ListN.{getD}
-use lib.Ieee.{lt}
-use Rattle.geometry.specs.Points.{pointSub, pointAt, lengthOf}
 use Rattle.area.specs.AreaTest.{directionOf}
 use Rattle.area.specs.Steps.{awayFrom}
 use Rattle.area.proofs.Judged.{away-next, away-end, direction-found, direction-next}
@@ -27,8 +23,8 @@ loop-holds c = (search needs, refl)
 away-requires : tie.Need-away-requires Inv-loop μ-loop
 away-requires c κs = search needs
 
-size-requires : tie.Need-size-requires Inv-loop μ-loop
-size-requires c κs = search needs
+longer-requires : tie.Need-longer-requires Inv-loop μ-loop
+longer-requires c κs = search needs
 
 returns : tie.Need-returns Inv-loop μ-loop
 returns c =
@@ -37,8 +33,7 @@ returns c =
     let ds = awayFrom (a .o) (pointsOf (a .coords .now) (drop (at .loop .i + 1) (a .nodes .now))) in
     let h : at .loop .i < length (a .nodes .now) = omega arith in
     let e = away-next (a .o) (a .coords .now) (a .nodes .now) (at .loop .i) h in
-    let t = rw (c .before .size .ensures) at (c .if1 .taken) in
-    sym (ap (directionOf (a .eps)) (rw (← c .before .before .away .ensures) at e) ∙ direction-found (a .eps) (c .before .before .away .result) ds t) ∙ at .loop .inv .1
+    sym (ap (directionOf (a .eps)) (rw (← c .before .before .away .ensures) at e) ∙ direction-found (a .eps) (c .before .before .away .result) ds (sym (c .before .longer .ensures) ∙ c .if1 .taken)) ∙ at .loop .inv .1
 
 add-i : tie.Need-add-i Inv-loop μ-loop
 add-i c = search needs
@@ -53,8 +48,7 @@ loop-again c =
     let ds = awayFrom (a .o) (pointsOf (a .coords .now) (drop (at .loop .i + 1) (a .nodes .now))) in
     let h : at .loop .i < length (a .nodes .now) = omega arith in
     let e = away-next (a .o) (a .coords .now) (a .nodes .now) (at .loop .i) h in
-    let t = rw (c .before .size .ensures) at (c .if1 .left) in
-    (search needs, sym (ap (directionOf (a .eps)) (rw (← c .before .before .away .ensures) at e) ∙ direction-next (a .eps) (c .before .before .away .result) ds t) ∙ at .loop .inv .1)
+    (search needs, sym (ap (directionOf (a .eps)) (rw (← c .before .before .away .ensures) at e) ∙ direction-next (a .eps) (c .before .before .away .result) ds (sym (c .before .longer .ensures) ∙ c .if1 .left)) ∙ at .loop .inv .1)
 
 returns-2 : tie.Need-returns-2 Inv-loop μ-loop
 returns-2 c =
@@ -71,7 +65,7 @@ direction-spec =
     μ-loop
     loop-holds
     away-requires
-    size-requires
+    longer-requires
     returns
     add-i
     loop-less

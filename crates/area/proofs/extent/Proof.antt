@@ -1,62 +1,24 @@
--- `area::extent` meets its contract. The invariant: the largest so far and the nodes left give the extent.
-use Prim.Native.Nat.{_-_, _≤_, _<_}
-use mathlib.Core.Path.{_≡_, ap, _∙_, sym}
-use native.Mathlib.Omega.{arith}
-use lib.ListN.{length, drop}
+-- `area::extent` meets its contract: the root of the largest d · d.
+use mathlib.Core.Path.{ap, _∙_}
+use lib.ListN.{drop}
+use Rattle.floats.specs.Root.{sqrt}
 use Rattle.geometry.specs.Points.{pointsOf}
-use Rattle.floats.proofs.Constants.{zero-bits}
-use Rattle.area.specs.AreaTest.{extentFrom, extentOf}
 use Rattle.area.specs.Steps.{awayFrom}
-use Rattle.area.proofs.Judged.{away-next, away-end}
+use Rattle.area.proofs.OneRoot.{extent-root}
 use borrow.Author.Needs.{needs}
 use Rattle.area.proofs.extent.Statement.{statement}
 use Rattle.area.proofs.extent.Tie as tie
 
-abbrev Inv-loop : tie.InvT-loop
-Inv-loop coords nodes o m₀ i₀ m i = (i ≤ length nodes) × (extentFrom m (awayFrom o (pointsOf coords (drop i nodes))) ≡ extentOf (awayFrom o (pointsOf coords (drop 1 nodes))))
+most-requires : tie.Need-most-requires
+most-requires c κs = search needs
 
-abbrev μ-loop : tie.MeasureT-loop
-μ-loop coords nodes o m₀ i₀ m i = length nodes - i
+sqrt-requires : tie.Need-sqrt-requires
+sqrt-requires c κs = search needs
 
-loop-holds : tie.Need-loop-holds Inv-loop μ-loop
-loop-holds c = (search needs, rw zero-bits)
-
-away-requires : tie.Need-away-requires Inv-loop μ-loop
-away-requires c κs = search needs
-
-reach-requires : tie.Need-reach-requires Inv-loop μ-loop
-reach-requires c κs = search needs
-
-add-i : tie.Need-add-i Inv-loop μ-loop
-add-i c = search needs
-
-loop-less : tie.Need-loop-less Inv-loop μ-loop
-loop-less c = search needs
-
-loop-again : tie.Need-loop-again Inv-loop μ-loop
-loop-again c =
-    let at = c .before .before .before in
-    let a = at .before .before .before .args in
-    let h : at .loop .i < length (a .nodes .now) = omega arith in
-    (search needs, rw (c .reach .ensures, c .before .away .ensures) (rw (away-next (a .o) (a .coords .now) (a .nodes .now) (at .loop .i) h) at (at .loop .inv .1)))
-
-returns : tie.Need-returns Inv-loop μ-loop
+returns : tie.Need-returns
 returns c =
-    let at = c .before in
-    let a = at .before .before .before .args in
-    let h : length (a .nodes .now) ≤ at .loop .i = omega arith in
-    rw (away-end (a .o) (a .coords .now) (a .nodes .now) (at .loop .i) h) at (at .loop .inv .1)
+    let a = c .before .before .before .before .args in
+    c .sqrt .ensures ∙ ap sqrt (c .before .most .ensures) ∙ extent-root (awayFrom (a .o) (pointsOf (a .coords .now) (drop 1 (a .nodes .now))))
 
 pub extent-spec : {M : Type 1} → statement M
-extent-spec =
-    tie.close
-    (tie.spec
-    Inv-loop
-    μ-loop
-    loop-holds
-    away-requires
-    reach-requires
-    add-i
-    loop-less
-    loop-again
-    returns)
+extent-spec = tie.close (tie.spec most-requires sqrt-requires returns)

@@ -1,5 +1,5 @@
 -- `area::list_off` meets its contract. The invariant: the numbers left, from `next` on, are off if the list is.
-use Prim.Native.Nat.{_-_, _≤_, _<_}
+use Prim.Native.Nat.{_-_, _≤_}
 use mathlib.Core.Path.{_≡_, refl, sym, _∙_}
 use native.Mathlib.Omega.{arith}
 use lib.ListN.{length, drop}

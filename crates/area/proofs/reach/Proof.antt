@@ -1,16 +1,16 @@
--- `area::reach` meets its contract: what `larger` and `size` ensure.
+-- `area::reach` meets its contract: what `larger` and `dot` ensure.
 use borrow.Author.Needs.{needs}
 use Rattle.area.proofs.reach.Statement.{statement}
 use Rattle.area.proofs.reach.Tie as tie
 
-size-requires : tie.Need-size-requires
-size-requires c κs = search needs
+dot-requires : tie.Need-dot-requires
+dot-requires c κs = search needs
 
 larger-requires : tie.Need-larger-requires
 larger-requires c κs = search needs
 
 returns : tie.Need-returns
-returns c = rw (c .larger .ensures, c .before .size .ensures)
+returns c = rw (c .larger .ensures, c .before .dot .ensures)
 
 pub reach-spec : {M : Type 1} → statement M
-reach-spec = tie.close (tie.spec size-requires larger-requires returns)
+reach-spec = tie.close (tie.spec dot-requires larger-requires returns)
