@@ -1,5 +1,5 @@
 -- The whole operation: what an answer of 0 says, and the map and the scratch afterwards.
-use Prim.Native.Nat.{ℕ, _+_, _*_, _/_, _≤_}
+use Prim.Native.Nat.{ℕ, _+_, _*_, _≤_}
 use mathlib.Core.Path.{_≡_, refl, sym, ap, _∙_, subst}
 use mathlib.Core.Bool.{Bool, true, false, cond, _||_}
 use mathlib.Core.List.{List, _++_}
@@ -14,7 +14,7 @@ use Rattle.laws.specs.Merging.{region}
 use Rattle.laws.specs.Refusals.{refused, refusal}
 use Rattle.laws.proofs.ListLaws.{length-upFrom}
 use Rattle.laws.proofs.Stores.{drop-after}
-use Rattle.geometry.specs.Coordinates.{nodeCount, countOff, toleranceOff, coordinatesOff}
+use Rattle.geometry.specs.Coordinates.{nodeCount, toleranceOff, coordinatesOff}
 use Rattle.snap.specs.Weld.{welded, weldedAll}
 use Rattle.snap.specs.Welding.{weldTable, weldRefusal, scratchNeeded, Welding}
 use Rattle.snap.specs.declared.WeldAnswer.the-variants.{Refused, Filled}
@@ -58,7 +58,7 @@ module _ (c : List Float) (t : Float) (m w : List ℕ) (ok : Accepted c (length 
   abbrev w₁ : List ℕ
   w₁ = sets w 0 (upFrom 0 n)
 
-  pub long : length w₁ ≡ length w
+  long : length w₁ ≡ length w
   long = length-sets w 0 (upFrom 0 n)
 
   numbered : region 0 n w₁ ≡ upFrom 0 n

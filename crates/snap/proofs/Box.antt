@@ -1,7 +1,7 @@
 -- The literals of the code are the definitions' values, and what the tests on them say.
 use Prim.Native.Nat.{ℕ, _+_, _<_}
-use mathlib.Core.Path.{_≡_, refl, sym, ap, _∙_}
-use mathlib.Core.Bool.{Bool, true, false, not, _&&_, _||_, and-false}
+use mathlib.Core.Path.{_≡_, refl, ap}
+use mathlib.Core.Bool.{true, false, _||_, and-false}
 use mathlib.Core.List.{List}
 use native.Mathlib.Numerals.{add-one}
 use lib.Ieee.{Float, nan, inf, fin, binary64, ofBits, ofFields, odd, neg, div, lt, le, eq}

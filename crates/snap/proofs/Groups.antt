@@ -11,7 +11,6 @@ use lib.Ieee.{Float}
 use lib.ListN.{length, getD, set, length-set}
 use lib.Seq.{slice, slice-cons}
 use Rattle.laws.specs.Lists.{onlyIf, elem}
-use Rattle.laws.proofs.Tests.{tested}
 use Rattle.snap.specs.Weld.{farOf, nearOf, takes, groups, spread, give, least, leastFrom}
 use Rattle.snap.specs.Steps.{Nodes}
 use Rattle.snap.proofs.Parts.{slice-none}
@@ -54,7 +53,7 @@ module _ (l : List ℕ) (j e m : ℕ) (h : j < e) (b : e ≤ length l) where
 -- ---- the same nodes taken, the same groups
 
 module _ (c : List Float) (t : Float) (size : ℕ) where
-  pub takes-ext : (p : ℕ) (f g : ℕ → Bool) (ns : List ℕ) → Nodes size ns → ((n : ℕ) → n < size → f n ≡ g n) → takes c t p f ns ≡ takes c t p g ns
+  takes-ext : (p : ℕ) (f g : ℕ → Bool) (ns : List ℕ) → Nodes size ns → ((n : ℕ) → n < size → f n ≡ g n) → takes c t p f ns ≡ takes c t p g ns
   takes-ext p f g [] k h = refl
   takes-ext p f g (n ∷ ns) k h = rw (h n (k .0), takes-ext p f g ns (k .1) h)
 
@@ -96,7 +95,7 @@ least-low m (n ∷ ns) = go (ltb n m) refl (least-low n ns) (least-low m ns)
 
 -- ---- lengths of maps
 
-pub length-give : (m : ℕ) (ns l : List ℕ) → length (give m ns l) ≡ length l
+length-give : (m : ℕ) (ns l : List ℕ) → length (give m ns l) ≡ length l
 length-give m [] l = refl
 length-give m (n ∷ ns) l = length-give m ns (set l n m) ∙ length-set l n m
 

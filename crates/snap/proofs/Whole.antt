@@ -1,12 +1,12 @@
 -- From the sort, the cleared marks, the sweep and the settling to the welded numbers.
 use Prim.Native.Nat.{ℕ, _+_, _≤_, _<_}
-use mathlib.Core.Path.{_≡_, refl, sym, ap, ap₂, _∙_, subst}
+use mathlib.Core.Path.{_≡_, sym, ap, ap₂, _∙_, subst}
 use mathlib.Core.Bool.{Bool, true, false, not, cond}
 use mathlib.Core.List.{List}
 use native.Mathlib.Omega.{arith}
 use lib.Dec.{eqb}
 use lib.Ieee.{Float, eq}
-use lib.ListN.{length, take, drop, replicate, length-replicate, getD-replicate}
+use lib.ListN.{length, take, replicate, length-replicate, getD-replicate}
 use lib.Seq.{slice, sets, length-sets, take-take}
 use Rattle.laws.specs.Lists.{sort, upFrom}
 use Rattle.laws.specs.Merging.{region}
@@ -29,7 +29,7 @@ module _ (l xs : List ℕ) (a k size : ℕ) (d : length xs ≡ size) where
   run-but h = (take-before a l k xs h, drop-after (k + size) l k xs (omega arith))
 
 -- as before twice
-pub but-but : (a b t : ℕ) (l v w : List ℕ) → a ≤ b → But a t l v → But b t v w → But a t l w
+but-but : (a b t : ℕ) (l v w : List ℕ) → a ≤ b → But a t l v → But b t v w → But a t l w
 but-but a b t l v w h p q = (sym (take-take a b w h) ∙ ap (take a) (q .0) ∙ take-take a b v h ∙ p .0, q .1 ∙ p .1)
 
 module _ (c : List Float) (t : Float) (l : List ℕ) (a s k n size : ℕ) (f : a + n ≤ s) (g : s + n ≤ k) (h : k + size ≤ length l) (ns : Nodes size (region a n l)) where

@@ -1,5 +1,5 @@
 -- As many words of the region as turns are there.
-use Prim.Native.Nat.{ℕ, _+_, _≤_, _<_, _-_}
+use Prim.Native.Nat.{ℕ, _+_, _≤_, _-_}
 use mathlib.Core.Path.{_≡_, refl, sym, ap, _∙_}
 use native.Mathlib.Nat.{zero-add}
 use native.Mathlib.Omega.{arith}
@@ -10,8 +10,6 @@ use Rattle.laws.specs.Merging.{region}
 use Rattle.laws.proofs.Stores.{sets-more, getD-region, length-region}
 use Rattle.snap.proofs.hand_over.Statement.{statement}
 use Rattle.snap.proofs.hand_over.Tie as tie
-use Rattle.snap.proofs.hand_over.Reads as reads
-use Rattle.snap.proofs.hand_over.Lts as lts
 
 abbrev Inv-loop : tie.InvT-loop
 Inv-loop map₀ work o n i₀ map i = (i ≤ n) × (map ≡ sets map₀ 0 (take i (region o n work))) × (length map ≡ length map₀)
@@ -19,39 +17,30 @@ Inv-loop map₀ work o n i₀ map i = (i ≤ n) × (map ≡ sets map₀ 0 (take 
 abbrev μ-loop : tie.MeasureT-loop
 μ-loop map₀ work o n i₀ map i = n - i
 
--- src/lib.rt:89:5
 loop-holds : tie.Need-loop-holds Inv-loop μ-loop
 loop-holds c = (search needs, refl, refl)
 
--- src/lib.rt:90:23
 add-map : tie.Need-add-map Inv-loop μ-loop
 add-map c = search needs
 
--- src/lib.rt:90:18
 mul-map : tie.Need-mul-map Inv-loop μ-loop
 mul-map c = search needs
 
--- src/lib.rt:90:18
 shared-slice-read-map : tie.Need-shared-slice-read-map Inv-loop μ-loop
 shared-slice-read-map c = search needs
 
--- src/lib.rt:90:9
 mul-map-2 : tie.Need-mul-map-2 Inv-loop μ-loop
 mul-map-2 c = search needs
 
--- src/lib.rt:90:9
 slice-write-map : tie.Need-slice-write-map Inv-loop μ-loop
 slice-write-map c = search needs
 
--- src/lib.rt:91:9
 add-i : tie.Need-add-i Inv-loop μ-loop
 add-i c = search needs
 
--- src/lib.rt:89:5
 loop-less : tie.Need-loop-less Inv-loop μ-loop
 loop-less c = search needs
 
--- src/lib.rt:89:5
 loop-again : tie.Need-loop-again Inv-loop μ-loop
 loop-again c =
     let at = c .before .before in
@@ -62,11 +51,9 @@ loop-again c =
     let value : getD (a .work .now) (a .o + i) 0 ≡ getD ys i 0 = sym (getD-region (a .o) (a .n) (a .work .now) i 0 (omega arith)) in
     (search needs, rw (value, at .loop .inv .1) (ap (λ (k : ℕ). set (sets (a .map .now) 0 (take i ys)) k (getD ys i 0)) (sym (zero-add i)) ∙ sets-more (a .map .now) 0 ys i 0 (omega arith)), simp length-set (at .loop .inv .2))
 
--- src/lib.rt:84:1
 same-length : tie.Need-same-length Inv-loop μ-loop
 same-length c = c .before .loop .inv .2
 
--- src/lib.rt:84:1
 returns : tie.Need-returns Inv-loop μ-loop
 returns c =
     let at = c .before in

@@ -3,24 +3,16 @@ use Rattle.snap.proofs.Marks.{renumbered}
 use borrow.Author.Needs.{needs}
 use Rattle.snap.proofs.number.Statement.{statement}
 use Rattle.snap.proofs.number.Tie as tie
-use Rattle.snap.proofs.number.Reads as reads
-use Rattle.snap.proofs.number.Lts as lts
-use Rattle.snap.proofs.clear.Reads as clear-reads
-use Rattle.snap.proofs.settle.Reads as settle-reads
 
--- src/lib.rt:64:5
 clear-requires : tie.Need-clear-requires
 clear-requires c κs = search needs
 
--- src/lib.rt:65:5
 settle-requires : tie.Need-settle-requires
 settle-requires c κs = search needs
 
--- src/lib.rt:60:1
 same-length : tie.Need-same-length
 same-length c = search needs
 
--- src/lib.rt:60:1
 returns : tie.Need-returns
 returns c =
     let a = c .before .before .before .before .before .before .before .before .before .args in

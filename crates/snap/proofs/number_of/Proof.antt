@@ -4,19 +4,14 @@ use Rattle.snap.specs.Steps.{numberOf}
 use borrow.Author.Needs.{needs}
 use Rattle.snap.proofs.number_of.Statement.{statement}
 use Rattle.snap.proofs.number_of.Tie as tie
-use Rattle.snap.proofs.number_of.Reads as reads
-use Rattle.snap.proofs.number_of.Lts as lts
 
--- src/lib.rt:42:9
 returns : tie.Need-returns
 unfolding numberOf
 returns c = let e = eq-eqb (c .before .args .w) 0 (c .if1 .taken) in rw e
 
--- src/lib.rt:44:5
 sub-result : tie.Need-sub-result
 sub-result c = search needs
 
--- src/lib.rt:38:1
 returns-2 : tie.Need-returns-2
 unfolding numberOf
 returns-2 c = let e = ne-eqb (c .before .args .w) 0 (c .if1 .left) in rw e

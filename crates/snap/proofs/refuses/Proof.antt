@@ -8,11 +8,6 @@ use Rattle.geometry.specs.Coordinates.{countOff, toleranceOff, coordinatesOff}
 use borrow.Author.Needs.{needs}
 use Rattle.snap.proofs.refuses.Statement.{statement}
 use Rattle.snap.proofs.refuses.Tie as tie
-use Rattle.snap.proofs.refuses.Reads as reads
-use Rattle.snap.proofs.refuses.Lts as lts
-use Rattle.snap.proofs.points.coordinates_off.Reads as coordinates-off-reads
-use Rattle.snap.proofs.points.count_off.Reads as count-off-reads
-use Rattle.snap.proofs.points.tolerance_off.Reads as tolerance-off-reads
 
 -- what the tests say that were passed
 counted : (c : tie.Else1) → countOff (length (c .before .before .before .args .coords .now)) ≡ false
@@ -24,49 +19,39 @@ tolerated c = sym (c .before .tolerance-off .ensures) ∙ c .if2 .left
 inside : (c : tie.Else3) → coordinatesOff (c .before .before .before .before .before .before .before .args .coords .now) ≡ false
 inside c = sym (c .before .coordinates-off .ensures) ∙ c .if3 .left
 
--- src/lib.rt:99:8
 count-off-requires : tie.Need-count-off-requires
 count-off-requires c κs = search needs
 
--- src/lib.rt:100:9
 returns : tie.Need-returns
 returns c = rw (sym (c .before .count-off .ensures) ∙ c .if1 .taken)
 
--- src/lib.rt:102:8
 tolerance-off-requires : tie.Need-tolerance-off-requires
 tolerance-off-requires c κs = search needs
 
--- src/lib.rt:103:9
 returns-2 : tie.Need-returns-2
 returns-2 c = rw (counted (c .before .before), sym (c .before .tolerance-off .ensures) ∙ c .if2 .taken)
 
--- src/lib.rt:105:8
 coordinates-off-requires : tie.Need-coordinates-off-requires
 coordinates-off-requires c κs = search needs
 
--- src/lib.rt:106:9
 returns-3 : tie.Need-returns-3
 returns-3 c = rw (counted (c .before .before .before .before), tolerated (c .before .before), sym (c .before .coordinates-off .ensures) ∙ c .if3 .taken)
 
--- src/lib.rt:110:9
 returns-4 : tie.Need-returns-4
 returns-4 c =
     let a = c .before .before .before .before .before .before .before .before .args in
     let n = length (a .coords .now) / 3 in
     rw (counted (c .before .before .before .before .before), tolerated (c .before .before .before), inside (c .before), lt-ltb (a .m) n (c .if4 .taken))
 
--- src/lib.rt:112:12
 mul-if5 : tie.Need-mul-if5
 mul-if5 c = search needs
 
--- src/lib.rt:113:9
 returns-5 : tie.Need-returns-5
 returns-5 c =
     let a = c .before .before .before .before .before .before .before .before .before .args in
     let n = length (a .coords .now) / 3 in
     rw (counted (c .before .before .before .before .before .before), tolerated (c .before .before .before .before), inside (c .before .before), le-ltb (a .m) n (c .before .if4 .left), lt-ltb (a .w) (3 * n) (c .if5 .taken))
 
--- src/lib.rt:96:1
 returns-6 : tie.Need-returns-6
 returns-6 c =
     let a = c .before .before .before .before .before .before .before .before .before .args in

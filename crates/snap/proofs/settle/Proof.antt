@@ -1,20 +1,17 @@
 -- What is left to be settled, of the marks at entry and put at k + i, is the whole. Behind i nothing has changed.
-use Prim.Native.Nat.{ℕ, suc, _+_, _≤_, _<_, _-_}
+use Prim.Native.Nat.{ℕ, _+_, _≤_, _-_}
 use mathlib.Core.Path.{_≡_, refl, sym, ap, ap₂, _∙_}
 use native.Mathlib.Nat.{add-zero}
 use native.Mathlib.Omega.{arith}
 use borrow.Author.Needs.{needs}
-use lib.ListN.{length, getD, set, drop, length-set}
-use lib.Seq.{sets, drop-set-lt, drop-drop}
+use lib.ListN.{length, getD, drop, length-set}
+use lib.Seq.{sets, drop-set-lt}
 use Rattle.laws.specs.Merging.{region}
 use Rattle.snap.specs.Steps.{numberOf, numbers}
 use Rattle.snap.proofs.Parts.{read-from, drop-later}
 use Rattle.snap.proofs.Marks.{settle-step}
 use Rattle.snap.proofs.settle.Statement.{statement}
 use Rattle.snap.proofs.settle.Tie as tie
-use Rattle.snap.proofs.settle.Reads as reads
-use Rattle.snap.proofs.settle.Lts as lts
-use Rattle.snap.proofs.number_of.Reads as number-of-reads
 
 abbrev Inv-loop : tie.InvT-loop
 Inv-loop work₀ k n i₀ work i = (i ≤ n) × (length work ≡ length work₀) × (drop (k + i) work ≡ drop (k + i) work₀) × (sets work (k + i) (numbers i (region (k + i) (n - i) work₀)) ≡ sets work₀ k (numbers 0 (region k n work₀)))
@@ -22,54 +19,42 @@ Inv-loop work₀ k n i₀ work i = (i ≤ n) × (length work ≡ length work₀)
 abbrev μ-loop : tie.MeasureT-loop
 μ-loop work₀ k n i₀ work i = n - i
 
--- src/lib.rt:53:5
 loop-holds : tie.Need-loop-holds Inv-loop μ-loop
 loop-holds c =
     let a = c .before .args in
     let z : a .n - 0 ≡ a .n = omega arith in
     (search needs, refl, refl, ap₂ (λ (o m : ℕ). sets (a .work .now) o (numbers 0 (region o m (a .work .now)))) (add-zero (a .k)) z)
 
--- src/lib.rt:54:33
 cast-number-of : tie.Need-cast-number-of Inv-loop μ-loop
 cast-number-of c = search needs
 
--- src/lib.rt:54:48
 add-number-of : tie.Need-add-number-of Inv-loop μ-loop
 add-number-of c = search needs
 
--- src/lib.rt:54:43
 mul-number-of : tie.Need-mul-number-of Inv-loop μ-loop
 mul-number-of c = search needs
 
--- src/lib.rt:54:43
 slice-read-number-of : tie.Need-slice-read-number-of Inv-loop μ-loop
 slice-read-number-of c = search needs
 
--- src/lib.rt:54:23
 number-of-requires : tie.Need-number-of-requires Inv-loop μ-loop
 number-of-requires c κs = search needs
 
--- src/lib.rt:54:14
 add-work : tie.Need-add-work Inv-loop μ-loop
 add-work c = search needs
 
--- src/lib.rt:54:9
 mul-work : tie.Need-mul-work Inv-loop μ-loop
 mul-work c = search needs
 
--- src/lib.rt:54:9
 slice-write-work : tie.Need-slice-write-work Inv-loop μ-loop
 slice-write-work c = search needs
 
--- src/lib.rt:55:9
 add-i : tie.Need-add-i Inv-loop μ-loop
 add-i c = search needs
 
--- src/lib.rt:53:5
 loop-less : tie.Need-loop-less Inv-loop μ-loop
 loop-less c = search needs
 
--- src/lib.rt:53:5
 loop-again : tie.Need-loop-again Inv-loop μ-loop
 loop-again c =
     let at = c .before .before .before in
@@ -85,11 +70,9 @@ loop-again c =
       rw value (settle-step (at .loop .work) l (a .k) i (a .n) (omega arith) (omega arith) ∙ at .loop .inv .3),
     )
 
--- src/lib.rt:48:1
 same-length : tie.Need-same-length Inv-loop μ-loop
 same-length c = c .before .loop .inv .1
 
--- src/lib.rt:48:1
 returns : tie.Need-returns Inv-loop μ-loop
 returns c =
     let at = c .before in

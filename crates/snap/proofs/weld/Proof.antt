@@ -1,15 +1,10 @@
 -- An answer of 0 gives what weld_in requires (accepted); the rest is said on lists, in Answers.
-use Prim.Native.Nat.{_/_}
 use mathlib.Core.Path.{_≡_, refl, sym, ap, _∙_}
 use native.Mathlib.Omega.{arith}
 use borrow.Author.Needs.{needs}
 use lib.ListN.{length}
-use lib.Seq.{sets}
-use Rattle.laws.specs.Lists.{upFrom}
-use Rattle.laws.specs.Merging.{region}
 use Rattle.snap.specs.Welding.{weldRefusal}
-use Rattle.snap.specs.Weld.{welded}
-use Rattle.snap.proofs.Answers.{Accepted, accepted, long, numbered-nodes, map-after, scratch-after, refusing, filling}
+use Rattle.snap.proofs.Answers.{Accepted, accepted, numbered-nodes, map-after, scratch-after, refusing, filling}
 use Rattle.snap.proofs.weld.Statement.{statement}
 use Rattle.snap.proofs.weld.Tie as tie
 

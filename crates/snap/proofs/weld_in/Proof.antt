@@ -1,5 +1,5 @@
 -- With tolerance 0 the numbering; else the sort, the cleared marks, the sweep and the settling, on lists: Whole.
-use mathlib.Core.Path.{_≡_, sym, _∙_}
+use mathlib.Core.Path.{_≡_, _∙_}
 use mathlib.Core.Bool.{true, false}
 use native.Mathlib.Omega.{arith}
 use borrow.Author.Needs.{needs}

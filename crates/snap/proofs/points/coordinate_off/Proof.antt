@@ -6,10 +6,7 @@ use Rattle.laws.specs.Limits.{coordinateLeast, coordinateMost}
 use Rattle.snap.proofs.Box.{least-bits, most-bits}
 use Rattle.snap.proofs.points.coordinate_off.Statement.{statement}
 use Rattle.snap.proofs.points.coordinate_off.Tie as tie
-use Rattle.snap.proofs.points.coordinate_off.Reads as reads
-use Rattle.snap.proofs.points.coordinate_off.Lts as lts
 
--- src/points.rt:63:13
 returns : tie.Need-returns
 returns c =
     let x = c .before .before .args .x in
@@ -17,7 +14,6 @@ returns c =
     let f : le x coordinateMost ≡ true = rw (← most-bits) (c .if2 .taken) in
     rw (e, f)
 
--- src/points.rt:58:1
 returns-2 : tie.Need-returns-2
 returns-2 c =
     let x = c .before .before .args .x in
@@ -25,7 +21,6 @@ returns-2 c =
     let f : le x coordinateMost ≡ false = rw (← most-bits) (c .if2 .left) in
     rw (e, f)
 
--- src/points.rt:58:1
 returns-3 : tie.Need-returns-3
 returns-3 c =
     let e : le coordinateLeast (c .before .args .x) ≡ false = rw (← least-bits) (c .if1 .left) in rw e

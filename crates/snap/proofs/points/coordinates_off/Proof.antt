@@ -10,9 +10,6 @@ use Rattle.geometry.specs.Coordinates.{coordinateOff, coordinatesOff}
 use Rattle.snap.proofs.Box.{off-next}
 use Rattle.snap.proofs.points.coordinates_off.Statement.{statement}
 use Rattle.snap.proofs.points.coordinates_off.Tie as tie
-use Rattle.snap.proofs.points.coordinates_off.Reads as reads
-use Rattle.snap.proofs.points.coordinates_off.Lts as lts
-use Rattle.snap.proofs.points.coordinate_off.Reads as coordinate-off-reads
 
 abbrev Inv-loop : tie.InvT-loop
 Inv-loop coords i₀ i = (i ≤ length coords) × (coordinatesOff (drop i coords) ≡ coordinatesOff coords)
@@ -20,23 +17,18 @@ Inv-loop coords i₀ i = (i ≤ length coords) × (coordinatesOff (drop i coords
 abbrev μ-loop : tie.MeasureT-loop
 μ-loop coords i₀ i = length coords - i
 
--- src/points.rt:74:5
 loop-holds : tie.Need-loop-holds Inv-loop μ-loop
 loop-holds c = (search needs, refl)
 
--- src/points.rt:75:27
 mul-coordinate-off : tie.Need-mul-coordinate-off Inv-loop μ-loop
 mul-coordinate-off c = search needs
 
--- src/points.rt:75:27
 shared-slice-read-coordinate-off : tie.Need-shared-slice-read-coordinate-off Inv-loop μ-loop
 shared-slice-read-coordinate-off c = search needs
 
--- src/points.rt:75:12
 coordinate-off-requires : tie.Need-coordinate-off-requires Inv-loop μ-loop
 coordinate-off-requires c κs = search needs
 
--- src/points.rt:76:13
 returns : tie.Need-returns Inv-loop μ-loop
 returns c =
     let at = c .before .before .before .before in
@@ -45,15 +37,12 @@ returns c =
     let t : coordinateOff (getD l (at .loop .i) nan) ≡ true = sym (c .before .coordinate-off .ensures) ∙ c .if1 .taken in
     sym (off-next l (at .loop .i) h ∙ rw t) ∙ at .loop .inv .1
 
--- src/points.rt:78:9
 add-i : tie.Need-add-i Inv-loop μ-loop
 add-i c = search needs
 
--- src/points.rt:74:5
 loop-less : tie.Need-loop-less Inv-loop μ-loop
 loop-less c = search needs
 
--- src/points.rt:74:5
 loop-again : tie.Need-loop-again Inv-loop μ-loop
 loop-again c =
     let at = c .before .before .before .before in
@@ -62,7 +51,6 @@ loop-again c =
     let t : coordinateOff (getD l (at .loop .i) nan) ≡ false = sym (c .before .coordinate-off .ensures) ∙ c .if1 .left in
     (omega arith, sym (off-next l (at .loop .i) h ∙ rw t) ∙ at .loop .inv .1)
 
--- src/points.rt:70:1
 returns-2 : tie.Need-returns-2 Inv-loop μ-loop
 returns-2 c =
     let at = c .before in

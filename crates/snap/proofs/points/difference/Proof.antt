@@ -3,10 +3,7 @@ use mathlib.Core.Path.{refl}
 use Rattle.geometry.specs.Points.{pointSub}
 use Rattle.snap.proofs.points.difference.Statement.{statement}
 use Rattle.snap.proofs.points.difference.Tie as tie
-use Rattle.snap.proofs.points.difference.Reads as reads
-use Rattle.snap.proofs.points.difference.Lts as lts
 
--- src/points.rt:22:1
 returns : tie.Need-returns
 unfolding pointSub
 returns c = refl

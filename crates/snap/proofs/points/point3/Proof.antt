@@ -9,54 +9,40 @@ use Rattle.geometry.specs.Points.{pointAt}
 use borrow.Author.Needs.{needs}
 use Rattle.snap.proofs.points.point3.Statement.{statement}
 use Rattle.snap.proofs.points.point3.Tie as tie
-use Rattle.snap.proofs.points.point3.Reads as reads
-use Rattle.snap.proofs.points.point3.Lts as lts
 
--- src/points.rt:16:19
 mul-t3 : tie.Need-mul-t3
 mul-t3 c = search needs
 
--- src/points.rt:16:12
 mul-t4 : tie.Need-mul-t4
 mul-t4 c = search needs
 
--- src/points.rt:16:12
 shared-slice-read-t6 : tie.Need-shared-slice-read-t6
 shared-slice-read-t6 c = search needs
 
--- src/points.rt:17:19
 mul-t7 : tie.Need-mul-t7
 mul-t7 c = search needs
 
--- src/points.rt:17:19
 add-t8 : tie.Need-add-t8
 add-t8 c = search needs
 
--- src/points.rt:17:12
 mul-t9 : tie.Need-mul-t9
 mul-t9 c = search needs
 
--- src/points.rt:17:12
 shared-slice-read-t11 : tie.Need-shared-slice-read-t11
 shared-slice-read-t11 c = search needs
 
--- src/points.rt:18:19
 mul-t12 : tie.Need-mul-t12
 mul-t12 c = search needs
 
--- src/points.rt:18:19
 add-t13 : tie.Need-add-t13
 add-t13 c = search needs
 
--- src/points.rt:18:12
 mul-t14 : tie.Need-mul-t14
 mul-t14 c = search needs
 
--- src/points.rt:18:12
 shared-slice-read-t16 : tie.Need-shared-slice-read-t16
 shared-slice-read-t16 c = search needs
 
--- src/points.rt:11:1
 returns : tie.Need-returns
 unfolding pointAt
 returns c =

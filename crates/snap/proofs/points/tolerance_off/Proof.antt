@@ -2,14 +2,10 @@
 use Rattle.snap.proofs.Box.{zero-bits, infinity-bits, tolerance-high, tolerance-low}
 use Rattle.snap.proofs.points.tolerance_off.Statement.{statement}
 use Rattle.snap.proofs.points.tolerance_off.Tie as tie
-use Rattle.snap.proofs.points.tolerance_off.Reads as reads
-use Rattle.snap.proofs.points.tolerance_off.Lts as lts
 
--- src/points.rt:52:9
 returns : tie.Need-returns
 returns c = rw infinity-bits (tolerance-high (c .before .args .tol) (rw (← zero-bits) (c .if1 .taken)))
 
--- src/points.rt:48:1
 returns-2 : tie.Need-returns-2
 returns-2 c = tolerance-low (c .before .args .tol) (rw (← zero-bits) (c .if1 .left))
 
