@@ -50,17 +50,32 @@ fn judge(name: &[u8]) {
     }
 }
 
-fn main() {
+// Sets that are few and exact.
+fn judge_shapes() {
     judge(b"chain");
     judge(b"equal");
     judge(b"zeros");
     judge(b"signs");
+}
+
+// Sets on one x, at the tolerance, and with a leader that is not the smallest.
+fn judge_edges() {
     judge(b"flat");
     judge(b"edge");
     judge(b"tenths");
     judge(b"later");
+}
+
+// Sets with tolerance 0 and -0, no node, and many.
+fn judge_sizes() {
     judge(b"exact");
     judge(b"below");
     judge(b"empty");
     judge(b"random");
+}
+
+fn main() {
+    judge_shapes();
+    judge_edges();
+    judge_sizes();
 }
