@@ -7,7 +7,7 @@ use native.Mathlib.Numerals.{add-one}
 use native.Mathlib.Omega.{arith}
 use lib.Ieee.{Float}
 use lib.ListN.{length, getD, set, take}
-use lib.Seq.{slice, slice-cons, length-slice, sets, length-sets, take-set-le, take-take}
+use lib.Seq.{slice, slice-cons, length-slice, sets, length-sets, take-set-le, take-take, getD-set-same}
 use Rattle.laws.specs.Lists.{elem}
 use Rattle.laws.specs.Merging.{region}
 use Rattle.laws.proofs.Stores.{take-before, drop-after, region-after, region-same, slice-region}
@@ -38,11 +38,15 @@ module _ (c : List Float) (t : Float) (w : List ℕ) (i e g k size : ℕ) (h : i
   next : slice i e w ≡ getD w i 0 ∷ slice (i + 1) e w
   next = rw add-one (slice-cons i e w 0 h in-work)
 
-  -- those that it takes are the same once it stands at g
-  pub same-takes : takes c t (getD w i 0) (marked k (set w g (getD w i 0))) (slice (i + 1) e (set w g (getD w i 0))) ≡ takes c t (getD w i 0) (marked k w) (slice (i + 1) e w)
+  -- once it stands at g it takes the same
+  pub stands : getD (set w g (getD w i 0)) g 0 ≡ getD w i 0
+  stands = getD-set-same w g (getD w i 0) 0 (omega arith)
+
+  pub same-takes : takes c t (getD (set w g (getD w i 0)) g 0) (marked k (set w g (getD w i 0))) (slice (i + 1) e (set w g (getD w i 0))) ≡ takes c t (getD w i 0) (marked k w) (slice (i + 1) e w)
   same-takes =
       let x = getD w i 0 in
-      ap₂ (λ (a : ℕ → Bool) (l : List ℕ). takes c t x a l) (fun-ext (λ (n : ℕ). marked-sets k g (x ∷ []) w n (omega arith)))
+      ap (λ (y : ℕ). takes c t y (marked k (set w g x)) (slice (i + 1) e (set w g x))) stands
+      ∙ ap₂ (λ (a : ℕ → Bool) (l : List ℕ). takes c t x a l) (fun-ext (λ (n : ℕ). marked-sets k g (x ∷ []) w n (omega arith)))
       (slice-to g (i + 1) e (set w g x) w (take-set-le g w g x (omega arith)) b)
 
   pub group-length : g + length G ≤ k

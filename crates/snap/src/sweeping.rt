@@ -1,7 +1,7 @@
 // The sweep over sorted nodes: each that is not yet taken leads a group, whose nodes are marked with its smallest number.
 ghost use mathlib.Core.Path.{_≡_};
 ghost use Prim.Native.Nat.{_+_, _-_, _^_, _≤_, _<_};
-ghost use lib.ListN.{length};
+ghost use lib.ListN.{length, getD};
 ghost use lib.Seq.{sets, slice};
 ghost use Rattle.laws.specs.Merging.{region};
 ghost use Rattle.geometry.specs.Coordinates.{nodeCount};
@@ -37,7 +37,7 @@ fn taken(work: &[u32], k: usize, n: u32) -> bool
     work[k + n as usize] != 0
 }
 
-// Puts the nodes that the leader p takes, among [i, e) of work, from g on, which lies behind them and before the marks at k. Returns the end.
+// The node at g leads: those that it takes, among [i, e) of work, go right behind it, before the marks at k. Returns the group's end.
 fn takes(
     coords: &[f64],
     tol: f64,
@@ -46,31 +46,31 @@ fn takes(
     e: usize,
     g: usize,
     k: usize,
-    p: u32,
 ) -> usize
-    requires { ⌜ (i ≤ e) × (e ≤ g) × (g + (e - i) ≤ k) × (k + nodeCount (now coords) ≤ length (now work)) × (p < nodeCount (now coords)) × Nodes (nodeCount (now coords)) (slice i e (now work)) ⌝ }
-    ensures { λ r. ⌜ (r ≡ g + length (takesOf (now (coords .entry)) tol p (marked k (now (work .entry))) (slice i e (now (work .entry))))) × (now (work .exit) ≡ sets (now (work .entry)) g (takesOf (now (coords .entry)) tol p (marked k (now (work .entry))) (slice i e (now (work .entry))))) ⌝ }
+    requires { ⌜ (i ≤ e) × (e ≤ g) × (g + 1 + (e - i) ≤ k) × (k + nodeCount (now coords) ≤ length (now work)) × (getD (now work) g 0 < nodeCount (now coords)) × Nodes (nodeCount (now coords)) (slice i e (now work)) ⌝ }
+    ensures { λ r. ⌜ (r ≡ g + 1 + length (takesOf (now (coords .entry)) tol (getD (now (work .entry)) g 0) (marked k (now (work .entry))) (slice i e (now (work .entry))))) × (now (work .exit) ≡ sets (now (work .entry)) (g + 1) (takesOf (now (coords .entry)) tol (getD (now (work .entry)) g 0) (marked k (now (work .entry))) (slice i e (now (work .entry))))) ⌝ }
 {
     let mut j = i;
-    let mut end = g;
+    let mut last = g;
     while j < e {
+        let leader = work[g];
         let n = work[j];
         if taken(work, k, n) {
             j += 1;
         } else {
-            if far(coords, tol, p, n) {
-                return end;
+            if far(coords, tol, leader, n) {
+                return last + 1;
             }
-            if near(coords, tol, p, n) {
-                work[end] = n;
-                end += 1;
+            if near(coords, tol, leader, n) {
+                work[last + 1] = n;
+                last += 1;
                 j += 1;
             } else {
                 j += 1;
             }
         }
     }
-    end
+    last + 1
 }
 
 // The smallest of [g, e), which is not empty.
@@ -122,7 +122,7 @@ fn lead(
         return;
     }
     work[g] = p;
-    let end = takes(coords, tol, work, i + 1, e, g + 1, k, p);
+    let end = takes(coords, tol, work, i + 1, e, g, k);
     let m = least(work, g, end);
     put(work, g, end, k, size, m + 1);
 }

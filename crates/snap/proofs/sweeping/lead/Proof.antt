@@ -10,7 +10,7 @@ use lib.Seq.{slice, sets, take-set-le}
 use Rattle.snap.specs.Weld.{least}
 use Rattle.snap.specs.Steps.{Nodes}
 use Rattle.snap.proofs.Parts.{in-slice, slice-to, nodes-rest}
-use Rattle.snap.proofs.Turn.{group, same-takes, group-length, group-nodes, group-run, least-node, turn-but, skipped, turn}
+use Rattle.snap.proofs.Turn.{group, stands, same-takes, group-length, group-nodes, group-run, least-node, turn-but, skipped, turn}
 use Rattle.snap.proofs.sweeping.lead.Statement.{statement}
 use Rattle.snap.proofs.sweeping.lead.Tie as tie
 
@@ -52,9 +52,6 @@ slice-write-work c = search needs
 add-takes : tie.Need-add-takes
 add-takes c = search needs
 
-add-takes-2 : tie.Need-add-takes-2
-add-takes-2 c = search needs
-
 takes-requires : tie.Need-takes-requires
 takes-requires c κs =
     let s = c .before .before .before .before .before .before .before in
@@ -67,7 +64,7 @@ takes-requires c κs =
       omega arith,
       omega arith,
       omega (arith, length-set w (a .g) y, p .4),
-      rw (← p .4) (leader s .0),
+      rw (stands (s .args .coords .now) (s .args .tol) (s .args .work .now) (s .args .i) (s .args .e) (s .args .g) (s .args .k) (s .args .size) (s .pre .0) (s .pre .1) (s .pre .2) (s .pre .3) (s .pre .6), ← p .4) (leader s .0),
       rw (slice-to (a .g) (a .i + 1) (a .e) (set w (a .g) y) w (take-set-le (a .g) w (a .g) y (omega arith)) (p .1), ← p .4) (nodes-rest _ (a .i) (a .i + 1) (a .e) w z (p .6)),
     )
 
@@ -126,7 +123,6 @@ lead-spec =
     mul-work
     slice-write-work
     add-takes
-    add-takes-2
     takes-requires
     least-requires
     add-put
