@@ -29,6 +29,7 @@ pub record Accepted (c : List Float) (m w : ℕ) : Type 0 where
   pub room : nodeCount c ≤ m
   pub words : 3 * nodeCount c ≤ w
 
+-- no row of the table held
 pub accepted : (c : List Float) (t : Float) (m w : ℕ) → refusal (weldTable c t m w) ≡ 0 → Accepted c m w
 accepted c t m w e = go (ltb 196605 (length c)) _ (toleranceOff t) (coordinatesOff c) (ltb m (nodeCount c)) (ltb w (3 * nodeCount c)) refl refl refl refl e
   where
@@ -58,23 +59,28 @@ module _ (c : List Float) (t : Float) (m w : List ℕ) (ok : Accepted c (length 
   abbrev w₁ : List ℕ
   w₁ = sets w 0 (upFrom 0 n)
 
+  -- the scratch keeps its length
   long : length w₁ ≡ length w
   long = length-sets w 0 (upFrom 0 n)
 
+  -- the nodes stand in front
   numbered : region 0 n w₁ ≡ upFrom 0 n
   numbered = run-there w (upFrom 0 n) 0 0 n (length-upFrom 0 n) (omega (arith, ok .words))
 
+  -- they are nodes
   pub numbered-nodes : Nodes n (region 0 n w₁)
   numbered-nodes = rw numbered (nodes-upFrom n 0 n (omega arith))
 
   -- w₂ is the scratch once it is welded
   module _ (w₂ : List ℕ) (l : length w₂ ≡ length w₁) where
+    -- the map handed over is the one promised
     pub map-after : region (n + n) n w₂ ≡ welded c t n (region 0 n w₁) → sets m 0 (region (n + n) n w₂) ≡ weldedAll c t ++ drop (length (weldedAll c t)) m
     unfolding weldedAll
     map-after e =
         ap (sets m 0) (e ∙ ap (welded c t n) numbered)
         ∙ front m (welded c t n (upFrom 0 n)) (omega (arith, length-welded c t n (upFrom 0 n), ok .room))
 
+    -- the scratch cleared is the one promised
     pub scratch-after : drop (n + n + n) w₂ ≡ drop (n + n + n) w₁ → sets w₂ 0 (replicate (3 * n) 0) ≡ replicate (3 * n) 0 ++ drop (length {A = ℕ} (replicate (3 * n) 0)) w
     scratch-after e =
         let z : length {A = ℕ} (replicate (3 * n) 0) ≡ 3 * n = length-replicate (3 * n) 0 in

@@ -11,6 +11,7 @@ use Rattle.laws.specs.Limits.{coordinateLeast, coordinateMost}
 use Rattle.floats.specs.Floats.{zero64, isFinite}
 use Rattle.geometry.specs.Coordinates.{toleranceOff, coordinateOff, coordinatesOff}
 
+-- 0, the two limits, and the infinity
 pub zero-bits : ofBits binary64 0 ≡ zero64
 unfolding ofBits ofFields odd
 zero-bits = refl
@@ -35,6 +36,7 @@ tolerance-high (inf true) e = e
 tolerance-high (inf false) e = refl
 tolerance-high (fin s m d) e = rw e
 
+-- one that is not at least 0 is off
 pub tolerance-low : (t : Float) → le zero64 t ≡ false → true ≡ toleranceOff t
 tolerance-low t e = rw (e, and-false (isFinite t))
 

@@ -18,6 +18,7 @@ use Rattle.laws.proofs.ListLaws.{length-upFrom}
 use Rattle.snap.specs.Weld.{give}
 use Rattle.snap.specs.Steps.{Nodes, marked, putAll, numberOf, numbers}
 
+-- three tests in another order
 or-turn : (a b m : Bool) → (a || (b || m)) ≡ ((b || a) || m)
 or-turn true true m = refl
 or-turn true false m = refl
@@ -47,15 +48,17 @@ module _ (k size v : ℕ) (some : 0 < v) where
       ∙ or-turn (elem n G) (eqb n x) (marked k l n)
 
 module _ (k size v : ℕ) where
-  -- what lies before the marks, behind them, and the marks
+  -- what lies before the marks stays
   pub take-put : (G l : List ℕ) → take k (putAll k v G l) ≡ take k l
   take-put [] l = refl
   take-put (x ∷ G) l = take-put G (set l (k + x) v) ∙ take-set-le k l (k + x) v (omega arith)
 
+  -- what lies behind them stays
   pub drop-put : (G l : List ℕ) → Nodes size G → drop (k + size) (putAll k v G l) ≡ drop (k + size) l
   drop-put [] l h = refl
   drop-put (x ∷ G) l h = drop-put G (set l (k + x) v) (h .1) ∙ drop-set-lt (k + size) l (k + x) v (omega (arith, h .0))
 
+  -- the marks are given to the nodes
   pub region-put : (G l : List ℕ) → Nodes size G → region k size (putAll k v G l) ≡ give v G (region k size l)
   region-put [] l h = refl
   region-put (x ∷ G) l h =
@@ -73,6 +76,7 @@ number-mark : (i m : ℕ) → numberOf i (m + 1) ≡ m
 unfolding numberOf
 number-mark i m = rw (ne-eqb (m + 1) 0 (λ (z : m + 1 ≡ 0). omega arith)) (omega arith)
 
+-- a mark set is a number set
 numbers-set : (i : ℕ) (l : List ℕ) (n m : ℕ) → numbers i (set l n (m + 1)) ≡ set (numbers i l) n m
 numbers-set i [] n m = refl
 numbers-set i (w ∷ l) zero m = ap (λ (x : ℕ). x ∷ numbers (suc i) l) (number-mark i m)
@@ -89,6 +93,7 @@ unfolding numberOf
 numbers-none i zero = refl
 numbers-none i (suc n) = ap (λ (r : List ℕ). i ∷ r) (numbers-none (suc i) n)
 
+-- a number for each mark
 pub length-numbers : (i : ℕ) (l : List ℕ) → length (numbers i l) ≡ length l
 length-numbers i [] = refl
 length-numbers i (w ∷ l) = ap suc (length-numbers (suc i) l)

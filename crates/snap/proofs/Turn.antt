@@ -32,9 +32,11 @@ module _ (c : List Float) (t : Float) (w : List ℕ) (i e g k size : ℕ) (h : i
   abbrev v : List ℕ
   v = after c t w i e g k
 
+  -- the nodes lie in the work
   in-work : e ≤ length w
   in-work = omega arith
 
+  -- the leader, and those behind it
   next : slice i e w ≡ getD w i 0 ∷ slice (i + 1) e w
   next = rw add-one (slice-cons i e w 0 h in-work)
 
@@ -49,9 +51,11 @@ module _ (c : List Float) (t : Float) (w : List ℕ) (i e g k size : ℕ) (h : i
       ∙ ap₂ (λ (a : ℕ → Bool) (l : List ℕ). takes c t x a l) (fun-ext (λ (n : ℕ). marked-sets k g (x ∷ []) w n (omega arith)))
       (slice-to g (i + 1) e (set w g x) w (take-set-le g w g x (omega arith)) b)
 
+  -- the group fits before the marks
   pub group-length : g + length G ≤ k
   group-length = omega (arith, length-takes c t size (getD w i 0) (marked k w) (slice (i + 1) e w), length-slice (i + 1) e w in-work)
 
+  -- its members are nodes
   pub group-nodes : Nodes size G
   group-nodes =
       let s = subst (λ (l : List ℕ). Nodes size l) next ns in
@@ -61,14 +65,17 @@ module _ (c : List Float) (t : Float) (w : List ℕ) (i e g k size : ℕ) (h : i
   pub least-node : least G < size
   least-node = omega (arith, least-low (getD w i 0) (takes c t (getD w i 0) (marked k w) (slice (i + 1) e w)), group-nodes .0)
 
+  -- it stands at g
   pub group-run : slice g (g + length G) (sets w g G) ≡ G
   group-run = slice-region g (length G) (sets w g G) ∙ region-same w g G (omega (arith, group-length))
 
+  -- what lies before g stays
   low : take g v ≡ take g w
   low =
       let q : g ≤ k = omega arith in
       sym (take-take g k v q) ∙ ap (take g) (take-put k size (least G + 1) G (sets w g G)) ∙ take-take g k (sets w g G) q ∙ take-before g w g G (omega arith)
 
+  -- and what lies behind the marks
   pub turn-but : But g (k + size) w v
   turn-but = (low, drop-put k size (least G + 1) G (sets w g G) group-nodes ∙ drop-after (k + size) w g G (omega (arith, group-length)))
 
@@ -82,6 +89,7 @@ module _ (c : List Float) (t : Float) (w : List ℕ) (i e g k size : ℕ) (h : i
       ap (numbers 0) (region-put k size (least G + 1) G (sets w g G) group-nodes ∙ ap (give (least G + 1) G) (region-after k size w g G group-length))
       ∙ numbers-give (least G) G (region k size w)
 
+  -- the turn of a leader: what is left to be swept comes to the same
   pub turn : marked k w (getD w i 0) ≡ false → weldFrom c t k size (i + 1) e v ≡ weldFrom c t k size i e w
   turn n =
       let z : i ≤ i + 1 = omega arith in

@@ -22,9 +22,11 @@ use Rattle.snap.proofs.Marks.{numbers-none, length-numbers}
 
 -- a run of `size` words at k
 module _ (l xs : List ℕ) (a k size : ℕ) (d : length xs ≡ size) where
+  -- it stands there
   pub run-there : k + size ≤ length l → region k size (sets l k xs) ≡ xs
   run-there h = subst (λ (m : ℕ). region k m (sets l k xs) ≡ xs) d (region-same l k xs (omega arith))
 
+  -- all else stays
   pub run-but : a ≤ k → But a (k + size) l (sets l k xs)
   run-but h = (take-before a l k xs h, drop-after (k + size) l k xs (omega arith))
 
@@ -42,12 +44,15 @@ module _ (c : List Float) (t : Float) (l : List ℕ) (a s k n size : ℕ) (f : a
   abbrev l₂ : List ℕ
   l₂ = sets l₁ k (replicate size 0)
 
+  -- as many nodes as before
   sorted-length : length S ≡ n
   sorted-length = length-sort (beforeOf c) (region a n l) ∙ length-region a n l (omega arith)
 
+  -- sorting keeps the length of the work
   l₁-length : length l₁ ≡ length l
   l₁-length = length-sets (sets l a S) s S ∙ length-sets l a S
 
+  -- a zero for each node
   zeros : length {A = ℕ} (replicate size 0) ≡ size
   zeros = length-replicate size 0
 
@@ -59,9 +64,11 @@ module _ (c : List Float) (t : Float) (l : List ℕ) (a s k n size : ℕ) (f : a
       ∙ region-before a n (sets l a S) s S (omega arith)
       ∙ run-there l S 0 a n sorted-length (omega arith)
 
+  -- they are nodes
   pub sorted-nodes : Nodes size (slice a (a + n) l₂)
   sorted-nodes = rw sorted-run (nodes-sort (beforeOf c) size (region a n l) ns)
 
+  -- no node is taken yet
   no-marks : (x : ℕ) → x < size → marked k l₂ x ≡ false
   no-marks x q =
       ap (λ (v : ℕ). not (eqb v 0))
@@ -75,6 +82,7 @@ module _ (c : List Float) (t : Float) (l : List ℕ) (a s k n size : ℕ) (f : a
       ∙ ap (λ (gs : List (List ℕ)). spread gs (upFrom 0 size))
       (groups-ext c t size (marked k l₂) (λ x. false) S (nodes-sort (beforeOf c) size (region a n l) ns) no-marks)
 
+  -- nothing else has changed so far
   ready-but : But a (k + size) l l₂
   ready-but =
       but-but a a (k + size) l l₁ l₂ (omega arith)
@@ -85,13 +93,16 @@ module _ (c : List Float) (t : Float) (l : List ℕ) (a s k n size : ℕ) (f : a
 
   -- w is the work after the sweep, which is then settled
   module _ (w : List ℕ) (m : length w ≡ length l) (e : numbers 0 (region k size w) ≡ weldFrom c t k size a (a + n) l₂) (b : But s (k + size) l₂ w) where
+    -- a number for each node
     settled-length : length (numbers 0 (region k size w)) ≡ size
     settled-length = length-numbers 0 (region k size w) ∙ length-region k size w (omega arith)
 
+    -- the settled marks are the welded numbers
     pub settled : eq t zero64 ≡ false → region k size (sets w k (numbers 0 (region k size w))) ≡ welded c t size (region a n l)
     unfolding welded
     settled z = run-there w (numbers 0 (region k size w)) 0 k size settled-length (omega arith) ∙ e ∙ rw z swept
 
+    -- nothing else has changed
     pub settled-but : But a (k + size) l (sets w k (numbers 0 (region k size w)))
     settled-but =
         but-but a a (k + size) l w (sets w k (numbers 0 (region k size w))) (omega arith)
@@ -103,6 +114,7 @@ pub unwelded : (c : List Float) (t : Float) (l : List ℕ) (k size : ℕ) (nodes
 unfolding welded
 unwelded c t l k size nodes h z = rw z (run-there l (upFrom 0 size) 0 k size (length-upFrom 0 size) h)
 
+-- a welded number for each node
 pub length-welded : (c : List Float) (t : Float) (n : ℕ) (ns : List ℕ) → length (welded c t n ns) ≡ n
 unfolding welded
 length-welded c t n ns = go (eq t zero64)
