@@ -1,6 +1,6 @@
 // Welded numbers: nodes that lie within the tolerance of a leader get one number (`duplicates_dim_n`).
+mod node_order;
 mod points;
-mod sorting;
 mod sweeping;
 
 ghost use mathlib.Core.Path.{_≡_};
@@ -83,7 +83,7 @@ pub fn weld_in(
         number(work, k, size);
         return;
     }
-    sorting::sort(coords, work, a, s, n);
+    node_order::sort(coords, work, a, s, n);
     clear(work, k, size);
     sweeping::sweep(coords, tol, work, a, a + n, s, k, size);
     settle(work, k, size);

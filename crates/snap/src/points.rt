@@ -1,16 +1,17 @@
 // Points of nodes, and the reasons of refusals 5, 6 and 7: to be replaced by geometry's own functions.
 ghost use mathlib.Core.Path.{_≡_};
-ghost use Prim.Native.Nat.{_<_};
+ghost use Prim.Native.Nat.{_+_, _*_, _<_};
 ghost use lib.ListN.{length};
 ghost use Rattle.geometry.specs.Points.{pointAt, pointSub, pointDot};
-ghost use Rattle.geometry.specs.Coordinates.{nodeCount, countOff, toleranceOff, coordinateOff, coordinatesOff};
+ghost use Rattle.geometry.specs.Coordinates.{countOff, toleranceOff, coordinateOff, coordinatesOff};
 use geometry::Point;
 
 // A node's point.
-pub fn point3(coords: &[f64], k: usize) -> Point
-    requires { ⌜ k < nodeCount (now coords) ⌝ }
-    ensures { λ r. ⌜ r ≡ pointAt (now (coords .entry)) k ⌝ }
+pub fn point3(coords: &[f64], node: u32) -> Point
+    requires { ⌜ node * 3 + 2 < length (now coords) ⌝ }
+    ensures { λ r. ⌜ r ≡ pointAt (now (coords .entry)) node ⌝ }
 {
+    let k = node as usize;
     Point {
         x: coords[k * 3],
         y: coords[k * 3 + 1],

@@ -10,62 +10,62 @@ use borrow.Author.Needs.{needs}
 use Rattle.snap.proofs.points.point3.Statement.{statement}
 use Rattle.snap.proofs.points.point3.Tie as tie
 
-mul-t3 : tie.Need-mul-t3
-mul-t3 c = search needs
-
 mul-t4 : tie.Need-mul-t4
 mul-t4 c = search needs
 
-shared-slice-read-t6 : tie.Need-shared-slice-read-t6
-shared-slice-read-t6 c = search needs
+mul-t5 : tie.Need-mul-t5
+mul-t5 c = search needs
 
-mul-t7 : tie.Need-mul-t7
-mul-t7 c = search needs
+shared-slice-read-t7 : tie.Need-shared-slice-read-t7
+shared-slice-read-t7 c = search needs
 
-add-t8 : tie.Need-add-t8
-add-t8 c = search needs
+mul-t8 : tie.Need-mul-t8
+mul-t8 c = search needs
 
-mul-t9 : tie.Need-mul-t9
-mul-t9 c = search needs
+add-t9 : tie.Need-add-t9
+add-t9 c = search needs
 
-shared-slice-read-t11 : tie.Need-shared-slice-read-t11
-shared-slice-read-t11 c = search needs
+mul-t10 : tie.Need-mul-t10
+mul-t10 c = search needs
 
-mul-t12 : tie.Need-mul-t12
-mul-t12 c = search needs
+shared-slice-read-t12 : tie.Need-shared-slice-read-t12
+shared-slice-read-t12 c = search needs
 
-add-t13 : tie.Need-add-t13
-add-t13 c = search needs
+mul-t13 : tie.Need-mul-t13
+mul-t13 c = search needs
 
-mul-t14 : tie.Need-mul-t14
-mul-t14 c = search needs
+add-t14 : tie.Need-add-t14
+add-t14 c = search needs
 
-shared-slice-read-t16 : tie.Need-shared-slice-read-t16
-shared-slice-read-t16 c = search needs
+mul-t15 : tie.Need-mul-t15
+mul-t15 c = search needs
+
+shared-slice-read-t17 : tie.Need-shared-slice-read-t17
+shared-slice-read-t17 c = search needs
 
 returns : tie.Need-returns
 unfolding pointAt
 returns c =
     let a = c .before .before .before .args in
     let any = getD-any (a .coords .now) in
-    let h0 : a .k * 3 < length (a .coords .now) = omega arith in
-    let h1 : a .k * 3 + 1 < length (a .coords .now) = omega arith in
-    let h2 : a .k * 3 + 2 < length (a .coords .now) = omega arith in
-    rw (any (a .k * 3) nan zero64 h0, any (a .k * 3 + 1) nan zero64 h1, any (a .k * 3 + 2) nan zero64 h2)
+    let h0 : a .node * 3 < length (a .coords .now) = omega arith in
+    let h1 : a .node * 3 + 1 < length (a .coords .now) = omega arith in
+    let h2 : a .node * 3 + 2 < length (a .coords .now) = omega arith in
+    rw (any (a .node * 3) nan zero64 h0, any (a .node * 3 + 1) nan zero64 h1, any (a .node * 3 + 2) nan zero64 h2)
 
 pub point3-spec : {M : Type 1} → statement M
 point3-spec =
     tie.close
     (tie.spec
-    mul-t3
     mul-t4
-    shared-slice-read-t6
-    mul-t7
-    add-t8
-    mul-t9
-    shared-slice-read-t11
-    mul-t12
-    add-t13
-    mul-t14
-    shared-slice-read-t16
+    mul-t5
+    shared-slice-read-t7
+    mul-t8
+    add-t9
+    mul-t10
+    shared-slice-read-t12
+    mul-t13
+    add-t14
+    mul-t15
+    shared-slice-read-t17
     returns)
