@@ -7,7 +7,7 @@ use native.Mathlib.Numerals.{add-one}
 use native.Mathlib.Omega.{arith}
 use lib.ListN.{length, getD, set, take, drop, length-set, length-drop, take-append-drop}
 use Rattle.laws.specs.Merging.{region}
-use lib.Seq.{sets, sets-eq, set-set, set-comm, getD-take, getD-drop, getD-set-same, drop-set-add, take-suc-set, take-add, take-take, drop-drop, take-suc, length-take-le, getD-set-other, take-set-le, drop-set-lt, drop-at, take-append-seam, drop-length}
+use lib.Seq.{slice, sets, sets-eq, length-sets, set-set, set-comm, getD-take, getD-drop, getD-set-same, drop-set-add, take-suc-set, take-add, take-take, drop-drop, take-suc, length-take-le, getD-set-other, take-set-le, drop-set-lt, drop-at, take-append-seam, drop-length}
 
 module _ {A : Type 0} where
   -- one store more
@@ -177,3 +177,25 @@ module _ {A : Type 0} where
   -- a region within the run
   pub region-within : (a k : ℕ) (w : List A) (o : ℕ) (ys : List A) → a + k ≤ length ys → o + length ys ≤ length w → region (o + a) k (sets w o ys) ≡ region a k ys
   region-within a k w o ys h b = sym (region-region a k o (length ys) (sets w o ys) h) ∙ ap (region a k) (region-same w o ys b)
+
+  -- a slice is a region
+  pub slice-region : (a n : ℕ) (w : List A) → slice a (a + n) w ≡ region a n w
+  slice-region a n w = sym (take-drop a n w)
+
+  -- a run that a later one covers
+  pub sets-cover : (w : List A) (p : ℕ) (ys : List A) (o : ℕ) (xs : List A) → o ≤ p → p + length ys ≤ o + length xs → o + length xs ≤ length w → sets (sets w p ys) o xs ≡ sets w o xs
+  sets-cover w p ys o xs h k b =
+      let d : o + length xs ≤ length (sets w p ys) = omega (arith, length-sets w p ys) in
+      rw (sets-eq xs (sets w p ys) o d, sets-eq xs w o b, take-before o w p ys h, drop-after (o + length xs) w p ys k)
+
+  -- a store behind the run
+  set-after : (w : List A) (o : ℕ) (xs : List A) (k : ℕ) (v : A) → o + length xs ≤ k → set (sets w o xs) k v ≡ sets (set w k v) o xs
+  set-after w o [] k v h = refl
+  set-after w o (x ∷ xs) k v h =
+      set-after (set w o x) (suc o) xs k v (omega arith) ∙ ap (λ (r : List A). sets r (suc o) xs) (set-comm w o k x v (λ (e : o ≡ k). omega arith))
+
+  -- two runs apart, in either order
+  pub sets-comm : (w : List A) (o : ℕ) (xs : List A) (p : ℕ) (ys : List A) → o + length xs ≤ p → sets (sets w o xs) p ys ≡ sets (sets w p ys) o xs
+  sets-comm w o xs p [] h = refl
+  sets-comm w o xs p (y ∷ ys) h =
+      ap (λ (r : List A). sets r (suc p) ys) (set-after w o xs p y h) ∙ sets-comm (set w p y) o xs (suc p) ys (omega arith)

@@ -1,3 +1,4 @@
--- Welded numbers, and the welding operation.
+-- Welded numbers, and the welding operation. Steps is for internal contracts only.
 pub mod Weld
 pub mod Welding
+pub mod Steps

@@ -1,0 +1,118 @@
+-- The groups: one node more, and what is taken of equal nodes.
+use Prim.Native.Nat.{ℕ, suc, _+_, _≤_, _<_}
+use mathlib.Core.Path.{_≡_, refl, sym, ap, _∙_}
+use mathlib.Core.Bool.{Bool, true, false, cond, _||_}
+use mathlib.Core.List.{List, [], _∷_, _++_}
+use native.Mathlib.Numerals.{add-one}
+use native.Mathlib.Omega.{arith}
+use borrow.Author.Tests.{lt-ltb, le-ltb, ltb-true}
+use lib.Dec.{ltb}
+use lib.Ieee.{Float}
+use lib.ListN.{length, getD, set, length-set}
+use lib.Seq.{slice, slice-cons}
+use Rattle.laws.specs.Lists.{onlyIf, elem}
+use Rattle.snap.specs.Weld.{farOf, nearOf, takes, groups, spread, give, least, leastFrom}
+use Rattle.snap.specs.Steps.{Nodes}
+use Rattle.snap.proofs.Parts.{slice-none}
+
+-- ---- one node more of those that a leader goes through
+
+module _ (c : List Float) (t : Float) (p : ℕ) (taken : ℕ → Bool) (l : List ℕ) (j e : ℕ) (h : j < e) (b : e ≤ length l) where
+  -- the next node, and those behind it
+  next : takes c t p taken (slice j e l) ≡ takes c t p taken (getD l j 0 ∷ slice (j + 1) e l)
+  next = rw (add-one j) (ap (takes c t p taken) (slice-cons j e l 0 h b))
+
+  -- a node that is taken is skipped
+  pub step-skip : taken (getD l j 0) ≡ true → takes c t p taken (slice j e l) ≡ takes c t p taken (slice (j + 1) e l)
+  step-skip g = next ∙ rw g
+
+  -- a node that is too far ends it
+  pub step-stop : taken (getD l j 0) ≡ false → farOf c t p (getD l j 0) ≡ true → takes c t p taken (slice j e l) ≡ []
+  step-stop g f = next ∙ rw (g, f)
+
+  -- a near node is taken
+  pub step-take : taken (getD l j 0) ≡ false → farOf c t p (getD l j 0) ≡ false → nearOf c t p (getD l j 0) ≡ true
+      → takes c t p taken (slice j e l) ≡ getD l j 0 ∷ takes c t p taken (slice (j + 1) e l)
+  step-take g f n = next ∙ rw (g, f, n)
+
+  -- another is passed by
+  pub step-pass : taken (getD l j 0) ≡ false → farOf c t p (getD l j 0) ≡ false → nearOf c t p (getD l j 0) ≡ false
+      → takes c t p taken (slice j e l) ≡ takes c t p taken (slice (j + 1) e l)
+  step-pass g f n = next ∙ rw (g, f, n)
+
+-- of no nodes none is taken
+pub takes-none : (c : List Float) (t : Float) (p : ℕ) (taken : ℕ → Bool) (l : List ℕ) (j e : ℕ) → e ≤ j → takes c t p taken (slice j e l) ≡ []
+takes-none c t p taken l j e h = ap (takes c t p taken) (slice-none j e l h)
+
+-- ---- the least, one node more
+
+module _ (l : List ℕ) (j e m : ℕ) (h : j < e) (b : e ≤ length l) where
+  -- the next number, and those behind it
+  least-next : leastFrom m (slice j e l) ≡ leastFrom (cond (ltb (getD l j 0) m) (getD l j 0) m) (slice (j + 1) e l)
+  least-next = rw (add-one j) (ap (leastFrom m) (slice-cons j e l 0 h b))
+
+  -- a smaller number is the least so far
+  pub least-down : getD l j 0 < m → leastFrom (getD l j 0) (slice (j + 1) e l) ≡ leastFrom m (slice j e l)
+  least-down k = sym (least-next ∙ rw (lt-ltb (getD l j 0) m k))
+
+  -- another is not
+  pub least-kept : m ≤ getD l j 0 → leastFrom m (slice (j + 1) e l) ≡ leastFrom m (slice j e l)
+  least-kept k = sym (least-next ∙ rw (le-ltb (getD l j 0) m k))
+
+-- ---- the same nodes taken, the same groups
+
+module _ (c : List Float) (t : Float) (size : ℕ) where
+  -- a leader takes the same where the same nodes are taken
+  takes-ext : (p : ℕ) (f g : ℕ → Bool) (ns : List ℕ) → Nodes size ns → ((n : ℕ) → n < size → f n ≡ g n) → takes c t p f ns ≡ takes c t p g ns
+  takes-ext p f g [] k h = refl
+  takes-ext p f g (n ∷ ns) k h = rw (h n (k .0), takes-ext p f g ns (k .1) h)
+
+  -- and the groups are the same
+  pub groups-ext : (f g : ℕ → Bool) (ns : List ℕ) → Nodes size ns → ((n : ℕ) → n < size → f n ≡ g n) → groups c t f ns ≡ groups c t g ns
+  groups-ext f g [] k h = refl
+  groups-ext f g (p ∷ ns) k h =
+      let e = takes-ext p f g ns (k .1) h in
+      let G : List ℕ = p ∷ takes c t p g ns in
+      rw (h p (k .0), e, groups-ext f g ns (k .1) h, groups-ext (λ n. elem n G || f n) (λ n. elem n G || g n) ns (k .1) (λ n q. ap (λ (b : Bool). elem n G || b) (h n q)))
+
+  -- what a leader takes are nodes
+  pub nodes-takes : (p : ℕ) (f : ℕ → Bool) (ns : List ℕ) → Nodes size ns → Nodes size (takes c t p f ns)
+  nodes-takes p f [] k = tt
+  nodes-takes p f (n ∷ ns) k = go (f n) (farOf c t p n) (nearOf c t p n) (nodes-takes p f ns (k .1))
+    where
+      go : (a b d : Bool) → Nodes size (takes c t p f ns) → Nodes size (cond a (takes c t p f ns) (cond b [] (onlyIf d (n ∷ []) ++ takes c t p f ns)))
+      go true b d r = r
+      go false true d r = tt
+      go false false true r = (k .0, r)
+      go false false false r = r
+
+  -- and no more than there are
+  pub length-takes : (p : ℕ) (f : ℕ → Bool) (ns : List ℕ) → length (takes c t p f ns) ≤ length ns
+  length-takes p f [] = omega arith
+  length-takes p f (n ∷ ns) = go (f n) (farOf c t p n) (nearOf c t p n) (length-takes p f ns)
+    where
+      go : (a b d : Bool) → length (takes c t p f ns) ≤ length ns → length (cond a (takes c t p f ns) (cond b [] (onlyIf d (n ∷ []) ++ takes c t p f ns))) ≤ suc (length ns)
+      go true b d r = omega arith
+      go false true d r = omega arith
+      go false false true r = omega arith
+      go false false false r = omega arith
+
+-- the least is at most the first
+pub least-low : (m : ℕ) (ns : List ℕ) → leastFrom m ns ≤ m
+least-low m [] = omega arith
+least-low m (n ∷ ns) = go (ltb n m) refl (least-low n ns) (least-low m ns)
+  where
+    go : (b : Bool) → ltb n m ≡ b → leastFrom n ns ≤ n → leastFrom m ns ≤ m → leastFrom (cond b n m) ns ≤ m
+    go true e p q = omega (arith, ltb-true n m e)
+    go false e p q = q
+
+-- ---- lengths of maps
+
+-- giving numbers keeps the length of the map
+length-give : (m : ℕ) (ns l : List ℕ) → length (give m ns l) ≡ length l
+length-give m [] l = refl
+length-give m (n ∷ ns) l = length-give m ns (set l n m) ∙ length-set l n m
+
+pub length-spread : (gs : List (List ℕ)) (l : List ℕ) → length (spread gs l) ≡ length l
+length-spread [] l = refl
+length-spread (g ∷ gs) l = length-spread gs (give (least g) g l) ∙ length-give (least g) g l

@@ -1,0 +1,10 @@
+-- Laws of the welding.
+pub mod Order
+pub mod Box
+pub mod Parts
+pub mod Halves
+pub mod Groups
+pub mod Marks
+pub mod Turn
+pub mod Whole
+pub mod Answers

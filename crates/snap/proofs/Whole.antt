@@ -1,0 +1,124 @@
+-- From the sort, the cleared marks, the sweep and the settling to the welded numbers.
+use Prim.Native.Nat.{ℕ, _+_, _≤_, _<_}
+use mathlib.Core.Path.{_≡_, sym, ap, ap₂, _∙_, subst}
+use mathlib.Core.Bool.{Bool, true, false, not, cond}
+use mathlib.Core.List.{List}
+use native.Mathlib.Omega.{arith}
+use lib.Dec.{eqb}
+use lib.Ieee.{Float, eq}
+use lib.ListN.{length, take, replicate, length-replicate, getD-replicate}
+use lib.Seq.{slice, sets, length-sets, take-take}
+use Rattle.laws.specs.Lists.{sort, upFrom}
+use Rattle.laws.specs.Merging.{region}
+use Rattle.laws.proofs.ListLaws.{length-upFrom}
+use Rattle.laws.proofs.Stores.{take-before, drop-after, region-before, region-same, length-region, slice-region, getD-within}
+use Rattle.laws.proofs.Sorting.{length-sort}
+use Rattle.floats.specs.Floats.{zero64}
+use Rattle.snap.specs.Weld.{beforeOf, groups, spread, welded}
+use Rattle.snap.specs.Steps.{Nodes, But, both, marked, numbers, weldFrom}
+use Rattle.snap.proofs.Parts.{nodes-sort}
+use Rattle.snap.proofs.Groups.{groups-ext, length-spread}
+use Rattle.snap.proofs.Marks.{numbers-none, length-numbers}
+
+-- a run of `size` words at k
+module _ (l xs : List ℕ) (a k size : ℕ) (d : length xs ≡ size) where
+  -- it stands there
+  pub run-there : k + size ≤ length l → region k size (sets l k xs) ≡ xs
+  run-there h = subst (λ (m : ℕ). region k m (sets l k xs) ≡ xs) d (region-same l k xs (omega arith))
+
+  -- all else stays
+  pub run-but : a ≤ k → But a (k + size) l (sets l k xs)
+  run-but h = (take-before a l k xs h, drop-after (k + size) l k xs (omega arith))
+
+-- as before twice
+but-but : (a b t : ℕ) (l v w : List ℕ) → a ≤ b → But a t l v → But b t v w → But a t l w
+but-but a b t l v w h p q = (sym (take-take a b w h) ∙ ap (take a) (q .0) ∙ take-take a b v h ∙ p .0, q .1 ∙ p .1)
+
+module _ (c : List Float) (t : Float) (l : List ℕ) (a s k n size : ℕ) (f : a + n ≤ s) (g : s + n ≤ k) (h : k + size ≤ length l) (ns : Nodes size (region a n l)) where
+  abbrev S : List ℕ
+  S = sort (beforeOf c) (region a n l)
+
+  abbrev l₁ : List ℕ
+  l₁ = both l a s S
+
+  abbrev l₂ : List ℕ
+  l₂ = sets l₁ k (replicate size 0)
+
+  -- as many nodes as before
+  sorted-length : length S ≡ n
+  sorted-length = length-sort (beforeOf c) (region a n l) ∙ length-region a n l (omega arith)
+
+  -- sorting keeps the length of the work
+  l₁-length : length l₁ ≡ length l
+  l₁-length = length-sets (sets l a S) s S ∙ length-sets l a S
+
+  -- a zero for each node
+  zeros : length {A = ℕ} (replicate size 0) ≡ size
+  zeros = length-replicate size 0
+
+  -- the sorted nodes are still at a
+  sorted-run : slice a (a + n) l₂ ≡ S
+  sorted-run =
+      slice-region a n l₂
+      ∙ region-before a n l₁ k (replicate size 0) (omega arith)
+      ∙ region-before a n (sets l a S) s S (omega arith)
+      ∙ run-there l S 0 a n sorted-length (omega arith)
+
+  -- they are nodes
+  pub sorted-nodes : Nodes size (slice a (a + n) l₂)
+  sorted-nodes = rw sorted-run (nodes-sort (beforeOf c) size (region a n l) ns)
+
+  -- no node is taken yet
+  no-marks : (x : ℕ) → x < size → marked k l₂ x ≡ false
+  no-marks x q =
+      ap (λ (v : ℕ). not (eqb v 0))
+      (getD-within l₁ k (replicate size 0) x 0 (omega (arith, zeros)) (omega (arith, zeros, l₁-length)) ∙ getD-replicate size x 0 0 q)
+
+  -- the sweep from the start
+  swept : weldFrom c t k size a (a + n) l₂ ≡ spread (groups c t (λ x. false) S) (upFrom 0 size)
+  swept =
+      ap₂ (λ (r m : List ℕ). spread (groups c t (marked k l₂) r) m) sorted-run
+      (ap (numbers 0) (run-there l₁ (replicate size 0) 0 k size zeros (omega (arith, l₁-length))) ∙ numbers-none 0 size)
+      ∙ ap (λ (gs : List (List ℕ)). spread gs (upFrom 0 size))
+      (groups-ext c t size (marked k l₂) (λ x. false) S (nodes-sort (beforeOf c) size (region a n l) ns) no-marks)
+
+  -- nothing else has changed so far
+  ready-but : But a (k + size) l l₂
+  ready-but =
+      but-but a a (k + size) l l₁ l₂ (omega arith)
+      (but-but a a (k + size) l (sets l a S) l₁ (omega arith)
+      (take-before a l a S (omega arith), drop-after (k + size) l a S (omega (arith, sorted-length)))
+      (take-before a (sets l a S) s S (omega arith), drop-after (k + size) (sets l a S) s S (omega (arith, sorted-length))))
+      (run-but l₁ (replicate size 0) a k size zeros (omega arith))
+
+  -- w is the work after the sweep, which is then settled
+  module _ (w : List ℕ) (m : length w ≡ length l) (e : numbers 0 (region k size w) ≡ weldFrom c t k size a (a + n) l₂) (b : But s (k + size) l₂ w) where
+    -- a number for each node
+    settled-length : length (numbers 0 (region k size w)) ≡ size
+    settled-length = length-numbers 0 (region k size w) ∙ length-region k size w (omega arith)
+
+    -- the settled marks are the welded numbers
+    pub settled : eq t zero64 ≡ false → region k size (sets w k (numbers 0 (region k size w))) ≡ welded c t size (region a n l)
+    unfolding welded
+    settled z = run-there w (numbers 0 (region k size w)) 0 k size settled-length (omega arith) ∙ e ∙ rw z swept
+
+    -- nothing else has changed
+    pub settled-but : But a (k + size) l (sets w k (numbers 0 (region k size w)))
+    settled-but =
+        but-but a a (k + size) l w (sets w k (numbers 0 (region k size w))) (omega arith)
+        (but-but a s (k + size) l l₂ w (omega arith) ready-but b)
+        (run-but w (numbers 0 (region k size w)) a k size settled-length (omega arith))
+
+-- with tolerance 0 each node has its own number
+pub unwelded : (c : List Float) (t : Float) (l : List ℕ) (k size : ℕ) (nodes : List ℕ) → k + size ≤ length l → eq t zero64 ≡ true → region k size (sets l k (upFrom 0 size)) ≡ welded c t size nodes
+unfolding welded
+unwelded c t l k size nodes h z = rw z (run-there l (upFrom 0 size) 0 k size (length-upFrom 0 size) h)
+
+-- a welded number for each node
+pub length-welded : (c : List Float) (t : Float) (n : ℕ) (ns : List ℕ) → length (welded c t n ns) ≡ n
+unfolding welded
+length-welded c t n ns = go (eq t zero64)
+  where
+    go : (b : Bool) → length (cond b (upFrom 0 n) (spread (groups c t (λ x. false) (sort (beforeOf c) ns)) (upFrom 0 n))) ≡ n
+    go true = length-upFrom 0 n
+    go false = length-spread (groups c t (λ x. false) (sort (beforeOf c) ns)) (upFrom 0 n) ∙ length-upFrom 0 n

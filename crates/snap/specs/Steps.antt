@@ -1,0 +1,46 @@
+-- For internal contracts: node numbers in regions of lent work, and what each step leaves there.
+use Prim.Native.Nat.{ℕ, suc, _+_, _-_, _<_}
+use mathlib.Core.Path.{_≡_}
+use mathlib.Core.Bool.{Bool, not, cond}
+use mathlib.Core.List.{List, [], _∷_, map}
+use lib.Dec.{eqb}
+use lib.ListN.{getD, take, drop}
+use lib.Seq.{sets, slice}
+use lib.Ieee.{Float}
+use Rattle.laws.specs.Merging.{region}
+use Rattle.snap.specs.Weld.{groups, spread, give}
+
+-- each number of the list is one of the n nodes
+abbrev pub Nodes : ℕ → List ℕ → Type 0
+Nodes n [] = Unit {0}
+Nodes n (k ∷ ks) = (k < n) × Nodes n ks
+
+-- v is w but for the words in [f, t)
+abbrev pub But : ℕ → ℕ → List ℕ → List ℕ → Type 0
+But f t w v = (take f v ≡ take f w) × (drop t v ≡ drop t w)
+
+-- l with xs from a on, and from s on
+abbrev pub both : List ℕ → ℕ → ℕ → List ℕ → List ℕ
+both l a s xs = sets (sets l a xs) s xs
+
+-- ---- marks: node n's is word k + n, 0 until it is taken, then one more than its welded number
+
+abbrev pub marked : ℕ → List ℕ → ℕ → Bool
+marked k l n = not (eqb (getD l (k + n) 0) 0)
+
+-- l with the mark v for each of the nodes
+abbrev pub putAll : ℕ → ℕ → List ℕ → List ℕ → List ℕ
+putAll k v ns l = give v (map (λ n. k + n) ns) l
+
+-- the number that the mark w gives node i
+unfoldable pub numberOf : ℕ → ℕ → ℕ
+numberOf i w = cond (eqb w 0) i (w - 1)
+
+-- the numbers that marks give, from node i on
+abbrev pub numbers : ℕ → List ℕ → List ℕ
+numbers i [] = []
+numbers i (w ∷ ws) = numberOf i w ∷ numbers (suc i) ws
+
+-- what the sweep of the sorted nodes in [i, e) of w, with marks of `size` nodes from k on, makes of the numbers
+abbrev pub weldFrom : List Float → Float → ℕ → ℕ → ℕ → ℕ → List ℕ → List ℕ
+weldFrom c t k size i e w = spread (groups c t (marked k w) (slice i e w)) (numbers 0 (region k size w))

@@ -1,0 +1,149 @@
+// The sweep over sorted nodes: each that is not yet taken leads a group, whose nodes are marked with its smallest number.
+ghost use mathlib.Core.Path.{_≡_};
+ghost use Prim.Native.Nat.{_+_, _-_, _^_, _≤_, _<_};
+ghost use lib.ListN.{length, getD};
+ghost use lib.Seq.{sets, slice};
+ghost use Rattle.laws.specs.Merging.{region};
+ghost use Rattle.geometry.specs.Coordinates.{nodeCount};
+ghost use Rattle.snap.specs.Weld.{farOf, nearOf, takes as takesOf, least as leastOf};
+ghost use Rattle.snap.specs.Steps.{Nodes, But, marked, putAll, numbers, weldFrom};
+
+// Node n's x minus the leader's exceeds the tolerance.
+fn far(coords: &[f64], tol: f64, p: u32, n: u32) -> bool
+    requires { ⌜ (p < nodeCount (now coords)) × (n < nodeCount (now coords)) ⌝ }
+    ensures { λ r. ⌜ r ≡ farOf (now (coords .entry)) tol p n ⌝ }
+{
+    let a = crate::points::point3(coords, p);
+    let b = crate::points::point3(coords, n);
+    b.x - a.x > tol
+}
+
+// The squared distance is at most the squared tolerance.
+fn near(coords: &[f64], tol: f64, p: u32, n: u32) -> bool
+    requires { ⌜ (p < nodeCount (now coords)) × (n < nodeCount (now coords)) ⌝ }
+    ensures { λ r. ⌜ r ≡ nearOf (now (coords .entry)) tol p n ⌝ }
+{
+    let a = crate::points::point3(coords, p);
+    let b = crate::points::point3(coords, n);
+    let d = crate::points::difference(a, b);
+    crate::points::dot(d, d) <= tol * tol
+}
+
+// Node n is taken: its mark, among the words from k on, is not 0.
+fn taken(work: &[u32], k: usize, n: u32) -> bool
+    requires { ⌜ k + n < length (now work) ⌝ }
+    ensures { λ r. ⌜ r ≡ marked k (now (work .entry)) n ⌝ }
+{
+    work[k + n as usize] != 0
+}
+
+// The node at g leads: those that it takes, among [i, e) of work, go right behind it, before the marks at k. Returns the group's end.
+fn takes(
+    coords: &[f64],
+    tol: f64,
+    work: &mut [u32],
+    i: usize,
+    e: usize,
+    g: usize,
+    k: usize,
+) -> usize
+    requires { ⌜ (i ≤ e) × (e ≤ g) × (g + 1 + (e - i) ≤ k) × (k + nodeCount (now coords) ≤ length (now work)) × (getD (now work) g 0 < nodeCount (now coords)) × Nodes (nodeCount (now coords)) (slice i e (now work)) ⌝ }
+    ensures { λ r. ⌜ (r ≡ g + 1 + length (takesOf (now (coords .entry)) tol (getD (now (work .entry)) g 0) (marked k (now (work .entry))) (slice i e (now (work .entry))))) × (now (work .exit) ≡ sets (now (work .entry)) (g + 1) (takesOf (now (coords .entry)) tol (getD (now (work .entry)) g 0) (marked k (now (work .entry))) (slice i e (now (work .entry))))) ⌝ }
+{
+    let mut j = i;
+    let mut last = g;
+    while j < e {
+        let leader = work[g];
+        let n = work[j];
+        if taken(work, k, n) {
+            j += 1;
+        } else {
+            if far(coords, tol, leader, n) {
+                return last + 1;
+            }
+            if near(coords, tol, leader, n) {
+                work[last + 1] = n;
+                last += 1;
+                j += 1;
+            } else {
+                j += 1;
+            }
+        }
+    }
+    last + 1
+}
+
+// The smallest of [g, e), which is not empty.
+fn least(work: &[u32], g: usize, e: usize) -> u32
+    requires { ⌜ (g < e) × (e ≤ length (now work)) ⌝ }
+    ensures { λ r. ⌜ r ≡ leastOf (slice g e (now (work .entry))) ⌝ }
+{
+    let mut m = work[g];
+    let mut j = g + 1;
+    while j < e {
+        if work[j] < m {
+            m = work[j];
+            j += 1;
+        } else {
+            j += 1;
+        }
+    }
+    m
+}
+
+// Each of the nodes in [g, e) of work gets the mark v, among the words from k on.
+fn put(work: &mut [u32], g: usize, e: usize, k: usize, size: usize, v: u32)
+    requires { ⌜ (g ≤ e) × (e ≤ k) × (k + size ≤ length (now work)) × Nodes size (slice g e (now work)) ⌝ }
+    ensures { λ _. ⌜ now (work .exit) ≡ putAll k v (slice g e (now (work .entry))) (now (work .entry)) ⌝ }
+{
+    let mut j = g;
+    while j < e {
+        work[k + work[j] as usize] = v;
+        j += 1;
+    }
+}
+
+// The node at i, if it is not taken, leads a group: its nodes go to the words from g on, and are marked with one more than the smallest.
+fn lead(
+    coords: &[f64],
+    tol: f64,
+    work: &mut [u32],
+    i: usize,
+    e: usize,
+    g: usize,
+    k: usize,
+    size: usize,
+)
+    requires { ⌜ (i < e) × (e ≤ g) × (g + (e - i) ≤ k) × (k + size ≤ length (now work)) × (size ≡ nodeCount (now coords)) × (size < 2 ^ 32) × Nodes size (slice i e (now work)) ⌝ }
+    ensures { λ _. ⌜ (weldFrom (now (coords .entry)) tol k size (i + 1) e (now (work .exit)) ≡ weldFrom (now (coords .entry)) tol k size i e (now (work .entry))) × But g (k + size) (now (work .entry)) (now (work .exit)) ⌝ }
+{
+    let p = work[i];
+    if taken(work, k, p) {
+        return;
+    }
+    work[g] = p;
+    let end = takes(coords, tol, work, i + 1, e, g, k);
+    let m = least(work, g, end);
+    put(work, g, end, k, size, m + 1);
+}
+
+// The sorted nodes in [o, e) of work lead in turn; the words from g on are room for a group.
+pub fn sweep(
+    coords: &[f64],
+    tol: f64,
+    work: &mut [u32],
+    o: usize,
+    e: usize,
+    g: usize,
+    k: usize,
+    size: usize,
+)
+    requires { ⌜ (o ≤ e) × (e ≤ g) × (g + (e - o) ≤ k) × (k + size ≤ length (now work)) × (size ≡ nodeCount (now coords)) × (size < 2 ^ 32) × Nodes size (slice o e (now work)) ⌝ }
+    ensures { λ _. ⌜ (numbers 0 (region k size (now (work .exit))) ≡ weldFrom (now (coords .entry)) tol k size o e (now (work .entry))) × But g (k + size) (now (work .entry)) (now (work .exit)) ⌝ }
+{
+    let mut i = o;
+    while i < e {
+        lead(coords, tol, work, i, e, g, k, size);
+        i += 1;
+    }
+}
