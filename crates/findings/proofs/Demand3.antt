@@ -24,7 +24,7 @@ use Rattle.findings.specs.declared.CheckAnswer.the-variants.{Report}
 use Rattle.findings.proofs.Exact.{exact}
 use Rattle.findings.proofs.ByKind.{only, unasked}
 use Rattle.findings.proofs.Means.{shares-means}
-use Rattle.findings.proofs.Accepted.{accepts, accepted}
+use Rattle.mesh.proofs.Accepts.{accepts, accepted}
 use Rattle.findings.proofs.Moved.{moved-accepts, same-work, reordered-cells}
 use Rattle.findings.proofs.Same.{read-back}
 use Rattle.findings.proofs.Reorder.{reordering}

@@ -9,7 +9,6 @@ pub mod Exact
 pub mod Means
 pub mod ByKind
 pub mod Told
-pub mod Accepted
 pub mod Moved
 pub mod Small
 pub mod Fits

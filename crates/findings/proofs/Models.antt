@@ -28,7 +28,7 @@ use Rattle.findings.proofs.Reorder.{reordering}
 use Rattle.findings.proofs.Exact.{exact}
 use Rattle.findings.proofs.Means.{shares-means}
 use Rattle.findings.proofs.Told.{told}
-use Rattle.findings.proofs.Accepted.{accepts}
+use Rattle.mesh.proofs.Accepts.{accepts}
 use Rattle.findings.proofs.Moved.{reordered-cells, same-work, check-refusal, moved-accepts}
 use Rattle.findings.proofs.Small.{Low, faces-few, cells-few, rings-short, repeats-low, cells-nodes, nodes-few}
 use Rattle.findings.proofs.Fits.{below}

@@ -19,10 +19,13 @@ use Rattle.mesh.specs.Model.{Model, Raw, cellsFrom, cellsOf}
 use Rattle.mesh.specs.Rings.{Face, ringsOf, facesOf, faces, numberFrom, numbered, ringWords}
 use Rattle.mesh.specs.Acceptance.{endsOff, facesIn, workNeeded, modelTable}
 use Rattle.findings.specs.Compared.{none, moved, endsFrom, withCells, reordered}
-use Rattle.findings.specs.Demand3.{ascending, Reordering}
+use Rattle.findings.specs.Demand3.{Reordering}
+use Rattle.mesh.specs.Model.{ascending}
 use Rattle.findings.proofs.Laws.{any-perm, length-snoc}
 use Rattle.findings.proofs.Faces.{rings-of}
-use Rattle.findings.proofs.Accepted.{or-parts, clear-append, accepted-clear, cellWrong, Accepts, accepted}
+use Rattle.mesh.proofs.Accepts.{accepted-clear, cellWrong, Accepts, accepted}
+use Rattle.laws.proofs.Tables.{clear-append}
+use Rattle.laws.proofs.Tests.{or-none}
 
 -- ---- cells, ends and words turn into one another
 
@@ -37,7 +40,7 @@ round-cells at (c ∷ cs) =
 -- ends that are right go up to the number of words
 ends-le : (at : ℕ) (es : List ℕ) (n : ℕ) → endsOff at es n ≡ false → at ≤ n
 ends-le at [] n e = omega (arith, eqb-true at n (not-false (eqb at n) e))
-ends-le at (e ∷ es) n h = let p = or-parts (ltb e at) (endsOff e es n) h in omega (arith, ltb-false e at (p .0), ends-le e es n (p .1))
+ends-le at (e ∷ es) n h = let p = or-none (ltb e at) (endsOff e es n) h in omega (arith, ltb-false e at (p .0), ends-le e es n (p .1))
 
 -- the words of cells read are the words
 round-words : (at : ℕ) (ks es ws : List ℕ) → length ks ≡ length es → endsOff at es (at + length ws) ≡ false → each (λ c. c .words) (cellsFrom at ks es ws) ≡ ws
@@ -46,7 +49,7 @@ round-words at [] [] (w ∷ ws) l h = absurd (omega (arith, eqb-true at (at + su
 round-words at [] (e ∷ es) ws l h = absurd (omega arith)
 round-words at (k ∷ ks) [] ws l h = absurd (omega arith)
 round-words at (k ∷ ks) (e ∷ es) ws l h =
-    let p = or-parts (ltb e at) (endsOff e es (at + length ws)) h in
+    let p = or-none (ltb e at) (endsOff e es (at + length ws)) h in
     let n : at + length ws ≡ e + length (drop (e - at) ws) =
     omega (arith, length-drop (e - at) ws, ltb-false e at (p .0), ends-le e es (at + length ws) (p .1)) in
     ap (λ (r : List ℕ). take (e - at) ws ++ r) (round-words e ks es (drop (e - at) ws) (omega arith) (ap (endsOff e es) (sym n) ∙ p .1))

@@ -18,7 +18,8 @@ use Rattle.mesh.specs.Rings.{Face, separator, at, tetRings, hexRings, wedgeRing
 use Rattle.mesh.specs.Acceptance.{countWrong, nodeOff, facesIn}
 use Rattle.findings.specs.Rules.{pairLe, pairOf, repeatAt, repeatsOf}
 use Rattle.findings.proofs.Laws.{Every, every-imp, every-parts, every-keep, every-last, every-map-in, every-map-parts, every-each, every-walk-in}
-use Rattle.findings.proofs.Accepted.{or-parts, cellWrong, Accepts}
+use Rattle.mesh.proofs.Accepts.{cellWrong, Accepts}
+use Rattle.laws.proofs.Tests.{or-none}
 use Rattle.findings.proofs.Moved.{cells-count, cells-words, rings-all, faces-count}
 
 -- ---- how many faces
@@ -161,7 +162,7 @@ module _ {ℓ κ} {A : Type ℓ} (le : A → A → Bool) (P : A → Type κ) whe
 nodes-low : (n k : ℕ) (ws : List ℕ) → any (nodeOff n k) ws ≡ false → Every (λ w. w < n) (keep (λ w. not (eqb w separator)) ws)
 unfolding Every
 nodes-low n k [] e = tt
-nodes-low n k (w ∷ ws) e = go (tested (eqb w separator)) (or-parts (nodeOff n k w) (any (nodeOff n k) ws) e) (nodes-low n k ws)
+nodes-low n k (w ∷ ws) e = go (tested (eqb w separator)) (or-none (nodeOff n k w) (any (nodeOff n k) ws) e) (nodes-low n k ws)
   where
     go : (eqb w separator ≡ true) ⊎ (eqb w separator ≡ false) → (nodeOff n k w ≡ false) × (any (nodeOff n k) ws ≡ false)
         → (any (nodeOff n k) ws ≡ false → Every (λ w. w < n) (keep (λ w. not (eqb w separator)) ws)) → Every (λ w. w < n) (keep (λ w. not (eqb w separator)) (w ∷ ws))
@@ -186,13 +187,13 @@ pub cells-nodes : (n : ℕ) (cs : List Raw) → any (cellWrong n) cs ≡ false �
 unfolding Every cellWrong
 cells-nodes n [] e = tt
 cells-nodes n (c ∷ cs) e =
-    let q = or-parts (cellWrong n c) (any (cellWrong n) cs) e in
-    let r = or-parts (eqb (c .kind) 0 || ltb PHED (c .kind)) (countWrong c || any (nodeOff n (c .kind)) (c .words)) (q .0) in
-    let s = or-parts (countWrong c) (any (nodeOff n (c .kind)) (c .words)) (r .1) in
+    let q = or-none (cellWrong n c) (any (cellWrong n) cs) e in
+    let r = or-none (eqb (c .kind) 0 || ltb PHED (c .kind)) (countWrong c || any (nodeOff n (c .kind)) (c .words)) (q .0) in
+    let s = or-none (countWrong c) (any (nodeOff n (c .kind)) (c .words)) (r .1) in
     (s .1, cells-nodes n cs (q .1))
 
 -- an accepted model has under 2^32 nodes
 pub nodes-few : (m : Model) → Accepts m → nodeCount (m .coords) < 4294967296
 nodes-few m h =
-    let p = or-parts (ltb (3 * nodeLimit) (length (m .coords))) (not (eqb (length (m .coords) % 3) 0)) (h .coordinates) in
+    let p = or-none (ltb (3 * nodeLimit) (length (m .coords))) (not (eqb (length (m .coords) % 3) 0)) (h .coordinates) in
     omega (arith, ltb-false (3 * nodeLimit) (length (m .coords)) (p .0))

@@ -7,7 +7,7 @@ use mathlib.Core.Path.{_≡_}
 use lib.Dec.{leb, eqb}
 use lib.ListN.{length, getD, take, drop}
 use Rattle.laws.specs.Lists.{any, each, upFrom}
-use Rattle.mesh.specs.Model.{Model, Raw, cellsOf}
+use Rattle.mesh.specs.Model.{Model, Raw, ascending, cellsOf}
 use Rattle.mesh.specs.Rings.{Face, keyOf, nodeSet, sameKey}
 use Rattle.mesh.specs.Lookup.{faceAt, ownersOf}
 use Rattle.findings.specs.Findings.{Rules, Finding, bowtie, overfull, partly, repeated, common}
@@ -42,11 +42,6 @@ pub record PairIn (n : ℕ) (x : Finding) : Type 0 where
   pub named : namesPair (fieldsOf x .first) (fieldsOf x .second) x ≡ true
 
 -- ---- reordering
-
--- no cell's kind is below that of the cell before it, the first's not below k
-abbrev pub ascending : ℕ → List Raw → Bool
-ascending k [] = true
-ascending k (c ∷ cs) = leb k (c .kind) && ascending (c .kind) cs
 
 -- σ has the number of each cell of m once, and leaves kinds ascending
 pub record Reordering (m : Model) (σ : List ℕ) : Type 0 where

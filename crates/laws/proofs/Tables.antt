@@ -1,18 +1,46 @@
--- Tables of refusals, one after the other.
+-- Tables of refusals: where no reason holds nothing is refused, and back; one table after the other.
 use Prim.Native.Nat.{ℕ}
-use mathlib.Core.Path.{_≡_, refl, _∙_}
+use mathlib.Core.Path.{_≡_, refl}
 use mathlib.Core.Logic.{_⊎_, inl, inr, _≢_}
-use mathlib.Core.Bool.{Bool, true, false, cond}
+use mathlib.Core.Bool.{Bool, true, false}
 use mathlib.Core.List.{List, [], _∷_, _++_}
+use Rattle.laws.specs.Lists.{any}
 use Rattle.laws.specs.Refusals.{refusal}
-use Rattle.laws.proofs.Tests.{tested}
+use Rattle.laws.proofs.Tests.{tested, or-none}
+
+-- a row's reason
+abbrev pub reason : ℕ × Bool → Bool
+reason row = row .1
 
 -- every number of a table is a refusal's
 abbrev pub Numbered : List (ℕ × Bool) → Type 0
 Numbered [] = Unit {0}
 Numbered (row ∷ rows) = (row .0 ≢ 0) × Numbered rows
 
--- where the first table refuses, its number stands
+pub numbered-append : (a b : List (ℕ × Bool)) → Numbered a → Numbered b → Numbered (a ++ b)
+numbered-append [] b n k = k
+numbered-append (row ∷ rows) b n k = (n .0, numbered-append rows b (n .1) k)
+
+-- where no reason holds, only what follows the table matters
+pub clear-append : (t rest : List (ℕ × Bool)) → any reason t ≡ false → refusal (t ++ rest) ≡ refusal rest
+clear-append [] rest e = refl
+clear-append (row ∷ t) rest e = let p = or-none (row .1) (any reason t) e in rw (p .0) (clear-append t rest (p .1))
+
+-- and nothing is refused
+pub clear-refusal : (t : List (ℕ × Bool)) → any reason t ≡ false → refusal t ≡ 0
+clear-refusal [] e = refl
+clear-refusal (row ∷ t) e = let p = or-none (row .1) (any reason t) e in rw (p .0) (clear-refusal t (p .1))
+
+-- where nothing is refused no reason holds
+pub refusal-clear : (t : List (ℕ × Bool)) → Numbered t → refusal t ≡ 0 → any reason t ≡ false
+refusal-clear [] h e = refl
+refusal-clear (row ∷ t) h e = go (tested (row .1)) (refusal-clear t (h .1))
+  where
+    go : (row .1 ≡ true) ⊎ (row .1 ≡ false) → (refusal t ≡ 0 → any reason t ≡ false) → any reason (row ∷ t) ≡ false
+    go (inl a) ih = absurd (h .0 (rw a at e))
+    go (inr a) ih = rw a (ih (rw a at e))
+
+-- where the first of two tables refuses, its number stands
 pub refusal-first : (a b : List (ℕ × Bool)) → refusal a ≢ 0 → refusal (a ++ b) ≡ refusal a
 refusal-first [] b n = absurd (n refl)
 refusal-first (row ∷ rows) b n = go (tested (row .1)) (λ m. refusal-first rows b m)
@@ -23,9 +51,4 @@ refusal-first (row ∷ rows) b n = go (tested (row .1)) (λ m. refusal-first row
 
 -- where it does not, the second's does
 pub refusal-second : (a b : List (ℕ × Bool)) → Numbered a → refusal a ≡ 0 → refusal (a ++ b) ≡ refusal b
-refusal-second [] b n z = refl
-refusal-second (row ∷ rows) b n z = go (tested (row .1)) (λ y. refusal-second rows b (n .1) y)
-  where
-    go : (row .1 ≡ true) ⊎ (row .1 ≡ false) → (refusal rows ≡ 0 → refusal (rows ++ b) ≡ refusal b) → refusal (row ∷ rows ++ b) ≡ refusal b
-    go (inl e) h = absurd (n .0 (rw e at z))
-    go (inr e) h = rw e (h (rw e at z))
+refusal-second a b n z = clear-append a b (refusal-clear a n z)

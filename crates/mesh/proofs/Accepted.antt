@@ -12,7 +12,7 @@ use Rattle.laws.specs.Lists.{each}
 use Rattle.laws.specs.Limits.{cellLimit, wordLimit, flagLimit}
 use Rattle.laws.specs.Refusals.{refusal}
 use Rattle.laws.proofs.ListLaws.{each-append}
-use Rattle.laws.proofs.Tables.{Numbered, refusal-first, refusal-second}
+use Rattle.laws.proofs.Tables.{Numbered, numbered-append, refusal-first, refusal-second}
 use Rattle.laws.proofs.Tests.{or-none}
 use Rattle.geometry.specs.Coordinates.{nodeCount, countOff, toleranceOff, coordinatesOff}
 use Rattle.mesh.specs.Model.{Model, Raw, cellsOf}
@@ -87,10 +87,6 @@ cellsRefusal m = refusal (cellsTable (nodeCount (m .coords)) 0 (cellsOf m))
 rows9 : (m : Model) → Before9 m → modelRefusal m ≡ refusal (cellsTable (nodeCount (m .coords)) 0 (cellsOf m) ++ ((10, ltb flagLimit (m .flags)) ∷ []))
 unfolding modelRefusal
 rows9 m b = rw (b .shape, b .tolerance, b .coordinates, ne-eqb (length (m .kinds)) 0 (b .some))
-
-numbered-append : (a b : List (ℕ × Bool)) → Numbered a → Numbered b → Numbered (a ++ b)
-numbered-append [] b n k = k
-numbered-append (row ∷ rows) b n k = (n .0, numbered-append rows b (n .1) k)
 
 pub nines : (n before : ℕ) (cs : List Raw) → Numbered (cellsTable n before cs)
 nines n before [] = tt

@@ -5,3 +5,4 @@ pub mod RunTallies
 pub mod Cells
 pub mod CellTallies
 pub mod Accepted
+pub mod Accepts

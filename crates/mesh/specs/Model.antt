@@ -1,9 +1,9 @@
 -- The model, its check flags, and its cells.
 use Prim.Native.Nat.{ℕ, _-_}
-use mathlib.Core.Bool.{Bool, not}
+use mathlib.Core.Bool.{Bool, true, not, _&&_}
 use mathlib.Core.List.{List, [], _∷_}
 use lib.Bits.{bitAnd}
-use lib.Dec.{eqb}
+use lib.Dec.{leb, eqb}
 use lib.ListN.{take, drop}
 use lib.Ieee.{Float}
 
@@ -67,3 +67,8 @@ cellsFrom at (k ∷ ks) (e ∷ es) ws = record { kind = k; words = take (e - at)
 -- the cells of a model, from kinds, ends and words
 unfoldable pub cellsOf : Model → List Raw
 cellsOf m = cellsFrom 0 (m .kinds) (m .ends) (m .words)
+
+-- no cell's kind is below that of the cell before it, the first's not below k
+abbrev pub ascending : ℕ → List Raw → Bool
+ascending k [] = true
+ascending k (c ∷ cs) = leb k (c .kind) && ascending (c .kind) cs

@@ -1,8 +1,7 @@
--- An accepted model: what no reason of its table holds says, and back.
-use Prim.Native.Nat.{ℕ, _<_}
+-- An accepted model: what it says that no reason of its table holds, and back.
+use Prim.Native.Nat.{ℕ}
 use mathlib.Core.Path.{_≡_, refl, sym, _∙_}
-use mathlib.Core.Logic.{_⊎_, inl, inr}
-use mathlib.Core.Bool.{Bool, true, false, not, _||_, true≢false}
+use mathlib.Core.Bool.{Bool, true, false, not, _||_}
 use mathlib.Core.List.{List, [], _∷_, _++_}
 use native.Mathlib.Omega.{arith}
 use borrow.Author.Tests.{ltb-false, leb-true, le-leb, le-ltb, eqb-true, eq-eqb, not-false}
@@ -11,61 +10,19 @@ use lib.ListN.{length}
 use Rattle.laws.specs.Lists.{any}
 use Rattle.laws.specs.Limits.{cellLimit, wordLimit, flagLimit}
 use Rattle.laws.specs.Refusals.{refusal}
-use Rattle.laws.proofs.Tests.{tested, and-parts}
+use Rattle.laws.proofs.Tests.{or-none, and-parts}
 use Rattle.laws.proofs.ListLaws.{any-append}
+use Rattle.laws.proofs.Tables.{reason, Numbered, numbered-append, clear-append, clear-refusal, refusal-clear}
 use Rattle.geometry.specs.Coordinates.{nodeCount, countOff, toleranceOff, coordinatesOff}
-use Rattle.mesh.specs.Model.{Model, Raw, PHED, cellsOf}
+use Rattle.mesh.specs.Model.{Model, Raw, PHED, ascending, cellsOf}
 use Rattle.mesh.specs.Acceptance.{endsOff, shapeOff, kindOff, countWrong, nodeOff, cellTable, cellsTable, modelTable, modelRefusal}
-use Rattle.findings.specs.Demand3.{ascending}
-use Rattle.findings.proofs.Laws.{Every, every-append}
-
--- neither test passes
-pub or-parts : (a b : Bool) → (a || b) ≡ false → (a ≡ false) × (b ≡ false)
-or-parts true b e = absurd (true≢false e)
-or-parts false b e = (refl, e)
-
--- ---- tables of refusals
-
--- a row's reason
-abbrev pub reason : ℕ × Bool → Bool
-reason row = row .1
-
--- where no reason holds, only what follows the table matters
-pub clear-append : (t rest : List (ℕ × Bool)) → any reason t ≡ false → refusal (t ++ rest) ≡ refusal rest
-clear-append [] rest e = refl
-clear-append (row ∷ t) rest e = let p = or-parts (row .1) (any reason t) e in rw (p .0) (clear-append t rest (p .1))
-
--- and nothing is refused
-clear-refusal : (t : List (ℕ × Bool)) → any reason t ≡ false → refusal t ≡ 0
-clear-refusal [] e = refl
-clear-refusal (row ∷ t) e = let p = or-parts (row .1) (any reason t) e in rw (p .0) (clear-refusal t (p .1))
-
--- a number above 0
-abbrev Numbered : ℕ × Bool → Type 0
-Numbered row = 0 < row .0
-
--- where nothing is refused no reason holds
-refusal-clear : (t : List (ℕ × Bool)) → Every Numbered t → refusal t ≡ 0 → any reason t ≡ false
-unfolding Every
-refusal-clear [] h e = refl
-refusal-clear (row ∷ t) h e = go (tested (row .1)) (refusal-clear t (h .1))
-  where
-    go : (row .1 ≡ true) ⊎ (row .1 ≡ false) → (refusal t ≡ 0 → any reason t ≡ false) → any reason (row ∷ t) ≡ false
-    go (inl a) ih = let z : row .0 ≡ 0 = rw a at e in absurd (omega (arith, h .0))
-    go (inr a) ih = rw a (ih (rw a at e))
-
--- every row of the cells has the number 9
-numbers-cells : (n before : ℕ) (cs : List Raw) → Every Numbered (cellsTable n before cs)
-unfolding Every cellTable
-numbers-cells n before [] = tt
-numbers-cells n before (c ∷ cs) = (omega arith, (omega arith, (omega arith, numbers-cells n (c .kind) cs)))
+use Rattle.mesh.proofs.Accepted.{nines}
 
 -- every row of a model has a number
-numbers-model : (m : Model) → Every Numbered (modelTable m)
-unfolding Every
+numbers-model : (m : Model) → Numbered (modelTable m)
 numbers-model m =
     let cells = cellsTable (nodeCount (m .coords)) 0 (cellsOf m) in
-    (omega arith, (omega arith, (omega arith, (omega arith, every-append Numbered cells _ (numbers-cells (nodeCount (m .coords)) 0 (cellsOf m)) (omega arith, tt)))))
+    (λ e. omega arith, (λ e. omega arith, (λ e. omega arith, (λ e. omega arith, numbered-append cells _ (nines (nodeCount (m .coords)) 0 (cellsOf m)) (λ e. omega arith, tt)))))
 
 -- an accepted model: no reason holds
 pub accepted-clear : (m : Model) → modelRefusal m ≡ 0 → any reason (modelTable m) ≡ false
@@ -81,22 +38,22 @@ cellWrong n c = (eqb (c .kind) 0 || ltb PHED (c .kind)) || (countWrong c || any 
 -- a kind that is there and not below the one before
 kind-on : (before k : ℕ) → kindOff before k ≡ false → (leb before k ≡ true) × ((eqb k 0 || ltb PHED k) ≡ false)
 kind-on before k e =
-    let p = or-parts (ltb k before || eqb k 0) (ltb PHED k) e in
-    let q = or-parts (ltb k before) (eqb k 0) (p .0) in
+    let p = or-none (ltb k before || eqb k 0) (ltb PHED k) e in
+    let q = or-none (ltb k before) (eqb k 0) (p .0) in
     (le-leb before k (ltb-false k before (q .0)), rw (q .1) (p .1))
 
 -- and back
 kind-back : (before k : ℕ) → leb before k ≡ true → (eqb k 0 || ltb PHED k) ≡ false → kindOff before k ≡ false
-kind-back before k a e = let p = or-parts (eqb k 0) (ltb PHED k) e in rw (le-ltb k before (leb-true before k a), p .0) (p .1)
+kind-back before k a e = let p = or-none (eqb k 0) (ltb PHED k) e in rw (le-ltb k before (leb-true before k a), p .0) (p .1)
 
 -- no reason of the cells' table holds: kinds ascend and no cell is wrong
 cells-right : (n before : ℕ) (cs : List Raw) → any reason (cellsTable n before cs) ≡ false → (ascending before cs ≡ true) × (any (cellWrong n) cs ≡ false)
 unfolding cellTable cellWrong
 cells-right n before [] e = (refl, refl)
 cells-right n before (c ∷ cs) e =
-    let p = or-parts (kindOff before (c .kind)) (countWrong c || (any (nodeOff n (c .kind)) (c .words) || any reason (cellsTable n (c .kind) cs))) e in
-    let q = or-parts (countWrong c) (any (nodeOff n (c .kind)) (c .words) || any reason (cellsTable n (c .kind) cs)) (p .1) in
-    let r = or-parts (any (nodeOff n (c .kind)) (c .words)) (any reason (cellsTable n (c .kind) cs)) (q .1) in
+    let p = or-none (kindOff before (c .kind)) (countWrong c || (any (nodeOff n (c .kind)) (c .words) || any reason (cellsTable n (c .kind) cs))) e in
+    let q = or-none (countWrong c) (any (nodeOff n (c .kind)) (c .words) || any reason (cellsTable n (c .kind) cs)) (p .1) in
+    let r = or-none (any (nodeOff n (c .kind)) (c .words)) (any reason (cellsTable n (c .kind) cs)) (q .1) in
     let k = kind-on before (c .kind) (p .0) in
     let ih = cells-right n (c .kind) cs (r .1) in
     (rw (k .0) (ih .0), rw (k .1, q .0, r .0) (ih .1))
@@ -107,9 +64,9 @@ unfolding cellTable cellWrong
 cells-back n before [] a e = refl
 cells-back n before (c ∷ cs) a e =
     let p = and-parts (leb before (c .kind)) (ascending (c .kind) cs) a in
-    let q = or-parts (cellWrong n c) (any (cellWrong n) cs) e in
-    let r = or-parts (eqb (c .kind) 0 || ltb PHED (c .kind)) (countWrong c || any (nodeOff n (c .kind)) (c .words)) (q .0) in
-    let s = or-parts (countWrong c) (any (nodeOff n (c .kind)) (c .words)) (r .1) in
+    let q = or-none (cellWrong n c) (any (cellWrong n) cs) e in
+    let r = or-none (eqb (c .kind) 0 || ltb PHED (c .kind)) (countWrong c || any (nodeOff n (c .kind)) (c .words)) (q .0) in
+    let s = or-none (countWrong c) (any (nodeOff n (c .kind)) (c .words)) (r .1) in
     rw (kind-back before (c .kind) (p .0) (r .0), s .0, s .1) (cells-back n (c .kind) cs (p .1) (q .1))
 
 -- ---- models
@@ -139,16 +96,16 @@ accepts m e =
     let a = length (m .kinds) in
     let b = length (m .ends) in
     let w = length (m .words) in
-    let p5 = or-parts (shapeOff m) (toleranceOff (m .tolerance) || (coordinatesOff (m .coords) || (k || any reason (T ++ ((10, F) ∷ []))))) (accepted-clear m e) in
-    let p6 = or-parts (toleranceOff (m .tolerance)) (coordinatesOff (m .coords) || (k || any reason (T ++ ((10, F) ∷ [])))) (p5 .1) in
-    let p7 = or-parts (coordinatesOff (m .coords)) (k || any reason (T ++ ((10, F) ∷ []))) (p6 .1) in
-    let p8 = or-parts k (any reason (T ++ ((10, F) ∷ []))) (p7 .1) in
-    let p9 = or-parts (any reason T) (F || false) (sym (any-append reason T ((10, F) ∷ [])) ∙ p8 .1) in
-    let p10 = or-parts F false (p9 .1) in
-    let s4 = or-parts (countOff (length (m .coords)) || ltb cellLimit a || ltb wordLimit w || not (eqb a b)) (endsOff 0 (m .ends) w) (p5 .0) in
-    let s3 = or-parts (countOff (length (m .coords)) || ltb cellLimit a || ltb wordLimit w) (not (eqb a b)) (s4 .0) in
-    let s2 = or-parts (countOff (length (m .coords)) || ltb cellLimit a) (ltb wordLimit w) (s3 .0) in
-    let s1 = or-parts (countOff (length (m .coords))) (ltb cellLimit a) (s2 .0) in
+    let p5 = or-none (shapeOff m) (toleranceOff (m .tolerance) || (coordinatesOff (m .coords) || (k || any reason (T ++ ((10, F) ∷ []))))) (accepted-clear m e) in
+    let p6 = or-none (toleranceOff (m .tolerance)) (coordinatesOff (m .coords) || (k || any reason (T ++ ((10, F) ∷ [])))) (p5 .1) in
+    let p7 = or-none (coordinatesOff (m .coords)) (k || any reason (T ++ ((10, F) ∷ []))) (p6 .1) in
+    let p8 = or-none k (any reason (T ++ ((10, F) ∷ []))) (p7 .1) in
+    let p9 = or-none (any reason T) (F || false) (sym (any-append reason T ((10, F) ∷ [])) ∙ p8 .1) in
+    let p10 = or-none F false (p9 .1) in
+    let s4 = or-none (countOff (length (m .coords)) || ltb cellLimit a || ltb wordLimit w || not (eqb a b)) (endsOff 0 (m .ends) w) (p5 .0) in
+    let s3 = or-none (countOff (length (m .coords)) || ltb cellLimit a || ltb wordLimit w) (not (eqb a b)) (s4 .0) in
+    let s2 = or-none (countOff (length (m .coords)) || ltb cellLimit a) (ltb wordLimit w) (s3 .0) in
+    let s1 = or-none (countOff (length (m .coords))) (ltb cellLimit a) (s2 .0) in
     let c = cells-right n 0 (cellsOf m) (p9 .0) in
     record {
       coordinates = s1 .0;
