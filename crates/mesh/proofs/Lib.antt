@@ -6,3 +6,5 @@ pub mod Cells
 pub mod CellTallies
 pub mod Accepted
 pub mod Accepts
+pub mod ByKind
+pub mod NodeNumbers

@@ -1,5 +1,4 @@
 -- Laws of rings put one after the other.
 pub mod Putting
 pub mod Polyhedra
-pub mod ByKind
 pub mod Laying

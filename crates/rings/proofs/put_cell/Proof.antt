@@ -7,7 +7,7 @@ use Rattle.rings.proofs.put_hex.Reads as put-hex-reads
 use Rattle.rings.proofs.put_phed.Reads as put-phed-reads
 use Rattle.rings.proofs.put_tet.Reads as put-tet-reads
 use Rattle.rings.proofs.put_wedge.Reads as put-wedge-reads
-use Rattle.rings.proofs.ByKind.{tet-is, hex-is, wedge-is, phed-is}
+use Rattle.mesh.proofs.ByKind.{tet-is, hex-is, wedge-is, phed-is}
 use Rattle.mesh.proofs.Cells.{the-fourth}
 use Rattle.mesh.specs.Steps.{ringTotal}
 use Rattle.laws.specs.Lists.{each}
