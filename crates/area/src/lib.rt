@@ -26,7 +26,7 @@ pub enum AreaAnswer {
 }
 
 // The first difference that is longer than eps.
-pub enum Heading {
+enum Heading {
     Along(Point),
     Missing,
 }
