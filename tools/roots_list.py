@@ -32,7 +32,7 @@ def chosen(rng):
     # zeros, the least, the largest, infinity; below zero and NaN
     yield from (0, 1 << 63, 1, 2, 3, (1 << 52) - 1, 1 << 52, (1 << 52) + 1, INFINITY - 1, INFINITY)
     yield from ((1 << 63) + 1, pattern(-1.0), pattern(-4.0), INFINITY | 1 << 63, NAN, INFINITY + 1)
-    # every third power of two, subnormals too
+    # powers of two: each subnormal one, every third of the others
     yield from (1 << k for k in range(52))
     yield from (e << 52 for e in range(1, 2047, 3))
     # squares, and one unit to either side
@@ -40,8 +40,8 @@ def chosen(rng):
         n = rng.randrange(1, 1 << rng.randrange(1, 27))
         bits = pattern(float(n * n) * 2.0 ** (2 * rng.randrange(-500, 480)))
         yield from (bits - 1, bits, bits + 1)
-    # just under and over a power of four, where the exponent's parity changes
-    for e in range(2, 2046, 16):
+    # just under and over powers of two, the exponent odd and even in turn
+    for e in range(2, 2046, 15):
         yield from ((e << 52) - 1, (e << 52) + 1)
     # subnormals
     yield from (rng.randrange(1, 1 << rng.randrange(1, 53)) for _ in range(400))

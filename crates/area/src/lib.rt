@@ -1,4 +1,4 @@
-// The area test: do nodes span an area? Each float expression is that of the Rust, in its order.
+// The area test: do nodes span an area? Each float expression is that of the Rust, in its order; a root is found only where a comparison needs it.
 ghost use mathlib.Core.Path.{_≡_};
 ghost use Prim.Native.Nat.{_<_, _≤_};
 ghost use lib.ListN.{length, getD, drop};
@@ -26,7 +26,7 @@ pub enum AreaAnswer {
 }
 
 // The first difference that is longer than eps.
-pub enum Heading {
+enum Heading {
     Along(Point),
     Missing,
 }

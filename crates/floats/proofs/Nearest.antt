@@ -1,4 +1,5 @@
 -- `sqrt` is IEEE 754's squareRoot: of every finite value above zero it is the binary64 value nearest to the exact root (`sqrt-nearest`), and that is one value only (`nearest-unique`).
+-- Both inequalities of `NearestRoot` are strict, so a tie does not occur.
 use mathlib.Core.Path.{_≡_, refl, sym, ap, _∙_, subst, subst₂}
 use mathlib.Core.Logic.{⊎-elim}
 use mathlib.Core.Bool.{true, false}

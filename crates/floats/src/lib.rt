@@ -14,9 +14,9 @@ ghost use Rattle.floats.specs.Steps.{Rest};
 // ---- the root
 
 // A whole root, and what is left over.
-pub struct RootRest {
-    pub root: u64,
-    pub rest: u64,
+struct RootRest {
+    root: u64,
+    rest: u64,
 }
 
 // One digit more: the root and the rest of 4 m + low, from those of m.

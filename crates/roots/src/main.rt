@@ -6,9 +6,9 @@ use libc::STDIN_FILENO;
 use libc::STDOUT_FILENO;
 
 // How many pairs were run, and how many agree.
-pub struct Tally {
-    pub run: u64,
-    pub agree: u64,
+struct Tally {
+    run: u64,
+    agree: u64,
 }
 
 // The root of the first eight bytes from `at` on is the pattern that the next eight hold.
