@@ -1,6 +1,5 @@
 -- Laws of the welding.
 pub mod Order
-pub mod Box
 pub mod Parts
 pub mod Halves
 pub mod Groups

@@ -1,6 +1,5 @@
 // Welded numbers: nodes that lie within the tolerance of a leader get one number (`duplicates_dim_n`).
 mod node_order;
-mod points;
 mod sweeping;
 
 ghost use mathlib.Core.Path.{_≡_};
@@ -105,13 +104,13 @@ fn hand_over(map: &mut [u32], work: &[u32], o: usize, n: usize)
 fn refuses(coords: &[f64], tol: f64, m: usize, w: usize) -> u8
     ensures { λ r. ⌜ r ≡ refusal (weldTable (now (coords .entry)) tol m w) ⌝ }
 {
-    if points::count_off(coords.len()) {
+    if geometry::count_off(coords.len()) {
         return 5;
     }
-    if points::tolerance_off(tol) {
+    if geometry::tolerance_off(tol) {
         return 6;
     }
-    if points::coordinates_off(coords) {
+    if geometry::coordinates_off(coords) {
         return 7;
     }
     let n = coords.len() / 3;

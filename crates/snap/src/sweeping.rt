@@ -13,8 +13,8 @@ fn far(coords: &[f64], tol: f64, p: u32, n: u32) -> bool
     requires { ⌜ (p < nodeCount (now coords)) × (n < nodeCount (now coords)) ⌝ }
     ensures { λ r. ⌜ r ≡ farOf (now (coords .entry)) tol p n ⌝ }
 {
-    let a = crate::points::point3(coords, p);
-    let b = crate::points::point3(coords, n);
+    let a = geometry::point3(coords, p);
+    let b = geometry::point3(coords, n);
     b.x - a.x > tol
 }
 
@@ -23,10 +23,10 @@ fn near(coords: &[f64], tol: f64, p: u32, n: u32) -> bool
     requires { ⌜ (p < nodeCount (now coords)) × (n < nodeCount (now coords)) ⌝ }
     ensures { λ r. ⌜ r ≡ nearOf (now (coords .entry)) tol p n ⌝ }
 {
-    let a = crate::points::point3(coords, p);
-    let b = crate::points::point3(coords, n);
-    let d = crate::points::difference(a, b);
-    crate::points::dot(d, d) <= tol * tol
+    let a = geometry::point3(coords, p);
+    let b = geometry::point3(coords, n);
+    let d = geometry::difference(a, b);
+    geometry::dot(d, d) <= tol * tol
 }
 
 // Node n is taken: its mark, among the words from k on, is not 0.

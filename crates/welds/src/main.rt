@@ -22,7 +22,7 @@ fn agrees(set: &[u8]) -> bool {
     recorded::read_coords(set, &mut coords, 3 * n);
     let answer = snap::weld(
         &coords[0..3 * n],
-        recorded::le_f64(set, 8),
+        floats::le_f64(set, 8),
         &mut map,
         &mut scratch,
     );

@@ -12,7 +12,7 @@ use Rattle.laws.proofs.ListLaws.{length-upFrom}
 use Rattle.floats.specs.Floats.{zero64}
 use Rattle.snap.specs.Weld.{beforeOf}
 use Rattle.snap.specs.Steps.{both}
-use Rattle.snap.proofs.Box.{zero-bits}
+use Rattle.floats.proofs.Constants.{zero-bits}
 use Rattle.snap.proofs.Whole.{run-but, sorted-nodes, settled, settled-but, unwelded}
 use Rattle.snap.proofs.weld_in.Statement.{statement}
 use Rattle.snap.proofs.weld_in.Tie as tie
