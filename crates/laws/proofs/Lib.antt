@@ -6,3 +6,4 @@ pub mod Sorting
 pub mod Permutations
 pub mod Stores
 pub mod Tables
+pub mod Bounds

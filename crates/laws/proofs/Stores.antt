@@ -199,3 +199,10 @@ module _ {A : Type 0} where
   sets-comm w o xs p [] h = refl
   sets-comm w o xs p (y ∷ ys) h =
       ap (λ (r : List A). sets r (suc p) ys) (set-after w o xs p y h) ∙ sets-comm (set w p y) o xs (suc p) ys (omega arith)
+
+  -- a run in front
+  pub sets-front : (w xs : List A) → length xs ≤ length w → sets w 0 xs ≡ xs ++ drop (length xs) w
+  sets-front w xs h =
+      let b : 0 + length xs ≤ length w = omega arith in
+      let z : 0 + length xs ≡ length xs = omega arith in
+      rw (sets-eq xs w 0 b, z)

@@ -146,9 +146,16 @@ face-count m = sym (length-rings (facesIn m)) ∙ ap length (rings-in m)
 
 -- ---- the answer
 
-pub model-refused : (m : Model) (t : CellTally) (n : ℕ) → modelRefusal m ≡ n → n ≢ 0 → t .refusal ≡ n → ModelCounted m t
-model-refused m t n e z a = record { refusal = a ∙ sym e; faces = λ y. absurd (z (sym a ∙ y)); words = λ y. absurd (z (sym a ∙ y)) }
+pub model-refused : (m : Model) (t : CellTally) (n : ℕ) → modelRefusal m ≡ n → n ≢ 0 → (t .refusal ≡ n) × (t .faces ≡ 0) × (t .words ≡ 0) → ModelCounted m t
+model-refused m t n e z a =
+    record {
+      refusal = a .0 ∙ sym e;
+      faces = λ y. absurd (z (sym (a .0) ∙ y));
+      words = λ y. absurd (z (sym (a .0) ∙ y));
+      few = omega (arith, a .1);
+      small = omega (arith, a .2);
+    }
 
 pub model-passed : (m : Model) (t : CellTally) → modelRefusal m ≡ 0 → CellsCounted (nodeCount (m .coords)) (cellsOf m) t → t .refusal ≡ 0 → ModelCounted m t
 model-passed m t e c z =
-    record { refusal = z ∙ sym e; faces = λ y. c .faces y ∙ sym (face-count m); words = λ y. c .words y ∙ ap length (sym (ring-words m)) }
+    record { refusal = z ∙ sym e; faces = λ y. c .faces y ∙ sym (face-count m); words = λ y. c .words y ∙ ap length (sym (ring-words m)); few = c .few; small = c .small }

@@ -124,16 +124,18 @@ module _ (kinds ends words : List ℕ) (n f w at before i : ℕ) (r : Counting k
       (counting-next t (subst (λ (k : ℕ). CellCounted n before (cellWith (getD kinds i 0) (take (k - at) (drop at words))) t) is c) z)
 
 -- no cell is left
-pub counting-end : (kinds ends words : List ℕ) (n f w at before i : ℕ) (t : CellTally) → Counting kinds ends words n f w at before i → length kinds ≤ i → t .refusal ≡ 0 → t .faces ≡ f → t .words ≡ w
+pub counting-end : (kinds ends words : List ℕ) (n f w at before i : ℕ) (t : CellTally) → Counting kinds ends words n f w at before i → length kinds ≤ 16384 → length words ≤ 262144 → length kinds ≤ i → t .refusal ≡ 0 → t .faces ≡ f → t .words ≡ w
     → CellsCounted n (cellsFrom 0 kinds ends words) t
-counting-end kinds ends words n f w at before i t r h a b c =
+counting-end kinds ends words n f w at before i t r x y h a b c =
     let d : left kinds ends words at i ≡ [] = ap (λ (k : List ℕ). cellsFrom at k (drop i ends) (drop at words)) (drop-of-length-le kinds h) in
     record {
       refusal = a ∙ ap (λ (l : List Raw). refusal (cellsTable n before l)) (sym d) ∙ r .table;
       faces = λ z. omega (arith, b, r .faces, ap (λ (l : List Raw). length (each ringsOf l)) d);
       words = λ z. omega (arith, c, r .rings, ap (λ (l : List Raw). ringTotal (each ringsOf l)) d);
+      few = omega (arith, b, r .few, r .seen, ends-most at (drop i ends) (length words) (r .order));
+      small = omega (arith, c, r .small, r .seen, ends-most at (drop i ends) (length words) (r .order));
     }
 
 -- a cell was refused
-pub cells-refused : (n : ℕ) (cs : List Raw) (t : CellTally) → t .refusal ≡ refusal (cellsTable n 0 cs) → t .refusal ≢ 0 → CellsCounted n cs t
-cells-refused n cs t e z = record { refusal = e; faces = λ y. absurd (z y); words = λ y. absurd (z y) }
+pub cells-refused : (n : ℕ) (cs : List Raw) (t : CellTally) → t .refusal ≡ refusal (cellsTable n 0 cs) → t .refusal ≢ 0 → t .faces ≡ 0 → t .words ≡ 0 → CellsCounted n cs t
+cells-refused n cs t e z a b = record { refusal = e; faces = λ y. absurd (z y); words = λ y. absurd (z y); few = omega arith; small = omega arith }

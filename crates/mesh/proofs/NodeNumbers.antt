@@ -10,6 +10,7 @@ use lib.Dec.{leb, ltb, eqb}
 use lib.ListN.{length, getD}
 use Rattle.laws.specs.Lists.{any, each, keep}
 use Rattle.laws.specs.Merging.{AllBelow}
+use Rattle.laws.proofs.Bounds.{below-at, below-append, below-left, below-right}
 use Rattle.laws.proofs.ListLaws.{each-append}
 use Rattle.laws.proofs.Tests.{tested, clash, or-none}
 use Rattle.mesh.specs.Model.{Raw, PHED}
@@ -19,25 +20,6 @@ use Rattle.mesh.specs.Steps.{WellCell, WellCells}
 use Rattle.mesh.proofs.Accepts.{cellWrong}
 use Rattle.mesh.proofs.ByKind.{tet-is, hex-is, wedge-is, phed-is}
 use Rattle.mesh.proofs.Cells.{the-fourth}
-
--- ---- lists below a bound
-
-pub below-append : (n : ℕ) (a b : List ℕ) → AllBelow n a → AllBelow n b → AllBelow n (a ++ b)
-below-append n [] b h k = k
-below-append n (x ∷ a) b h k = (h .0, below-append n a b (h .1) k)
-
-below-left : (n : ℕ) (a b : List ℕ) → AllBelow n (a ++ b) → AllBelow n a
-below-left n [] b h = tt
-below-left n (x ∷ a) b h = (h .0, below-left n a b (h .1))
-
-below-right : (n : ℕ) (a b : List ℕ) → AllBelow n (a ++ b) → AllBelow n b
-below-right n [] b h = h
-below-right n (x ∷ a) b h = below-right n a b (h .1)
-
-pub below-at : (n : ℕ) (l : List ℕ) (i : ℕ) → AllBelow n l → i < length l → getD l i 0 < n
-below-at n [] i h k = absurd (omega arith)
-below-at n (x ∷ l) zero h k = h .0
-below-at n (x ∷ l) (suc i) h k = below-at n l i (h .1) (omega arith)
 
 -- ---- words that are nodes
 

@@ -1,5 +1,5 @@
 -- For internal contracts: runs one by one, and what a pass over cells counts.
-use Prim.Native.Nat.{ℕ, zero, suc, _+_, _≤_}
+use Prim.Native.Nat.{ℕ, zero, suc, _+_, _≤_, _<_}
 use mathlib.Core.Bool.{Bool, false, cond}
 use mathlib.Core.List.{List, [], _∷_}
 use mathlib.Core.Path.{_≡_}
@@ -69,9 +69,13 @@ pub record CellsCounted (n : ℕ) (cs : List Raw) (t : CellTally) : Type 0 where
   pub refusal : t .refusal ≡ refusal (cellsTable n 0 cs)
   pub faces : t .refusal ≡ 0 → t .faces ≡ length (each ringsOf cs)
   pub words : t .refusal ≡ 0 → t .words ≡ ringTotal (each ringsOf cs)
+  pub few : t .faces < 4294967296
+  pub small : t .words < 4294967296
 
 -- the same of a model
 pub record ModelCounted (m : Model) (t : CellTally) : Type 0 where
   pub refusal : t .refusal ≡ modelRefusal m
   pub faces : t .refusal ≡ 0 → t .faces ≡ length (facesIn m)
   pub words : t .refusal ≡ 0 → t .words ≡ length (ringWords (facesIn m))
+  pub few : t .faces < 4294967296
+  pub small : t .words < 4294967296

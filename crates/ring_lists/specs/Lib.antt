@@ -1,2 +1,3 @@
 -- The operation that fills ring lists.
 pub mod Filling
+pub mod Steps

@@ -10,16 +10,15 @@ use lib.Ieee.{Float}
 use lib.ListN.{length, drop, replicate, length-replicate}
 use lib.Seq.{sets, sets-eq, length-sets}
 use Rattle.laws.specs.Lists.{upFrom}
-use Rattle.laws.specs.Merging.{region}
+use Rattle.laws.specs.Merging.{region, AllBelow}
 use Rattle.laws.specs.Refusals.{refused, refusal}
 use Rattle.laws.proofs.ListLaws.{length-upFrom}
-use Rattle.laws.proofs.Stores.{drop-after}
+use Rattle.laws.proofs.Stores.{drop-after, sets-front}
 use Rattle.geometry.specs.Coordinates.{nodeCount, toleranceOff, coordinatesOff}
 use Rattle.snap.specs.Weld.{welded, weldedAll}
 use Rattle.snap.specs.Welding.{weldTable, weldRefusal, scratchNeeded, Welding}
 use Rattle.snap.specs.declared.WeldAnswer.the-variants.{Refused, Filled}
-use Rattle.snap.specs.Steps.{Nodes}
-use Rattle.snap.proofs.Parts.{nodes-upFrom}
+use Rattle.laws.proofs.Bounds.{below-upFrom}
 use Rattle.snap.proofs.Whole.{run-there, length-welded}
 
 -- what an answer of 0 says
@@ -44,13 +43,6 @@ accepted c t m w e = go (ltb 196605 (length c)) _ (toleranceOff t) (coordinatesO
     go false false false false true h p q r s z = absurd (omega arith)
     go false false false false false true p q r s z = absurd (omega arith)
 
--- a run in front
-front : (l xs : List ℕ) → length xs ≤ length l → sets l 0 xs ≡ xs ++ drop (length xs) l
-front l xs h =
-    let b : 0 + length xs ≤ length l = omega arith in
-    let z : 0 + length xs ≡ length xs = omega arith in
-    rw (sets-eq xs l 0 b, z)
-
 module _ (c : List Float) (t : Float) (m w : List ℕ) (ok : Accepted c (length m) (length w)) where
   abbrev n : ℕ
   n = nodeCount c
@@ -68,8 +60,8 @@ module _ (c : List Float) (t : Float) (m w : List ℕ) (ok : Accepted c (length 
   numbered = run-there w (upFrom 0 n) 0 0 n (length-upFrom 0 n) (omega (arith, ok .words))
 
   -- they are nodes
-  pub numbered-nodes : Nodes n (region 0 n w₁)
-  numbered-nodes = rw numbered (nodes-upFrom n 0 n (omega arith))
+  pub numbered-nodes : AllBelow n (region 0 n w₁)
+  numbered-nodes = rw numbered (below-upFrom n 0 n (omega arith))
 
   -- w₂ is the scratch once it is welded
   module _ (w₂ : List ℕ) (l : length w₂ ≡ length w₁) where
@@ -78,14 +70,14 @@ module _ (c : List Float) (t : Float) (m w : List ℕ) (ok : Accepted c (length 
     unfolding weldedAll
     map-after e =
         ap (sets m 0) (e ∙ ap (welded c t n) numbered)
-        ∙ front m (welded c t n (upFrom 0 n)) (omega (arith, length-welded c t n (upFrom 0 n), ok .room))
+        ∙ sets-front m (welded c t n (upFrom 0 n)) (omega (arith, length-welded c t n (upFrom 0 n), ok .room))
 
     -- the scratch cleared is the one promised
     pub scratch-after : drop (n + n + n) w₂ ≡ drop (n + n + n) w₁ → sets w₂ 0 (replicate (3 * n) 0) ≡ replicate (3 * n) 0 ++ drop (length {A = ℕ} (replicate (3 * n) 0)) w
     scratch-after e =
         let z : length {A = ℕ} (replicate (3 * n) 0) ≡ 3 * n = length-replicate (3 * n) 0 in
         let y : n + n + n ≡ length {A = ℕ} (replicate (3 * n) 0) = omega arith in
-        front w₂ (replicate (3 * n) 0) (omega (arith, ok .words, long))
+        sets-front w₂ (replicate (3 * n) 0) (omega (arith, ok .words, long))
         ∙ ap (λ (r : List ℕ). replicate (3 * n) 0 ++ r) (subst (λ (j : ℕ). drop j w₂ ≡ drop j w) y (e ∙ drop-after (n + n + n) w 0 (upFrom 0 n) (omega (arith, length-upFrom 0 n))))
 
 -- ---- the promise

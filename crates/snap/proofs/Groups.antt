@@ -12,7 +12,7 @@ use lib.ListN.{length, getD, set, length-set}
 use lib.Seq.{slice, slice-cons}
 use Rattle.laws.specs.Lists.{onlyIf, elem}
 use Rattle.snap.specs.Weld.{farOf, nearOf, takes, groups, spread, give, least, leastFrom}
-use Rattle.snap.specs.Steps.{Nodes}
+use Rattle.laws.specs.Merging.{AllBelow}
 use Rattle.snap.proofs.Parts.{slice-none}
 
 -- ---- one node more of those that a leader goes through
@@ -63,12 +63,12 @@ module _ (l : List ℕ) (j e m : ℕ) (h : j < e) (b : e ≤ length l) where
 
 module _ (c : List Float) (t : Float) (size : ℕ) where
   -- a leader takes the same where the same nodes are taken
-  takes-ext : (p : ℕ) (f g : ℕ → Bool) (ns : List ℕ) → Nodes size ns → ((n : ℕ) → n < size → f n ≡ g n) → takes c t p f ns ≡ takes c t p g ns
+  takes-ext : (p : ℕ) (f g : ℕ → Bool) (ns : List ℕ) → AllBelow size ns → ((n : ℕ) → n < size → f n ≡ g n) → takes c t p f ns ≡ takes c t p g ns
   takes-ext p f g [] k h = refl
   takes-ext p f g (n ∷ ns) k h = rw (h n (k .0), takes-ext p f g ns (k .1) h)
 
   -- and the groups are the same
-  pub groups-ext : (f g : ℕ → Bool) (ns : List ℕ) → Nodes size ns → ((n : ℕ) → n < size → f n ≡ g n) → groups c t f ns ≡ groups c t g ns
+  pub groups-ext : (f g : ℕ → Bool) (ns : List ℕ) → AllBelow size ns → ((n : ℕ) → n < size → f n ≡ g n) → groups c t f ns ≡ groups c t g ns
   groups-ext f g [] k h = refl
   groups-ext f g (p ∷ ns) k h =
       let e = takes-ext p f g ns (k .1) h in
@@ -76,11 +76,11 @@ module _ (c : List Float) (t : Float) (size : ℕ) where
       rw (h p (k .0), e, groups-ext f g ns (k .1) h, groups-ext (λ n. elem n G || f n) (λ n. elem n G || g n) ns (k .1) (λ n q. ap (λ (b : Bool). elem n G || b) (h n q)))
 
   -- what a leader takes are nodes
-  pub nodes-takes : (p : ℕ) (f : ℕ → Bool) (ns : List ℕ) → Nodes size ns → Nodes size (takes c t p f ns)
+  pub nodes-takes : (p : ℕ) (f : ℕ → Bool) (ns : List ℕ) → AllBelow size ns → AllBelow size (takes c t p f ns)
   nodes-takes p f [] k = tt
   nodes-takes p f (n ∷ ns) k = go (f n) (farOf c t p n) (nearOf c t p n) (nodes-takes p f ns (k .1))
     where
-      go : (a b d : Bool) → Nodes size (takes c t p f ns) → Nodes size (cond a (takes c t p f ns) (cond b [] (onlyIf d (n ∷ []) ++ takes c t p f ns)))
+      go : (a b d : Bool) → AllBelow size (takes c t p f ns) → AllBelow size (cond a (takes c t p f ns) (cond b [] (onlyIf d (n ∷ []) ++ takes c t p f ns)))
       go true b d r = r
       go false true d r = tt
       go false false true r = (k .0, r)

@@ -11,12 +11,12 @@ use lib.Dec.{eqb}
 use lib.ListN.{length, getD, set, take, drop, replicate, length-set, length-replicate}
 use lib.Seq.{sets, getD-set-same, getD-set-other, take-set-le, take-set-lt, drop-set-lt, drop-set-add, drop-cons}
 use Rattle.laws.specs.Lists.{elem, upFrom}
-use Rattle.laws.specs.Merging.{region}
+use Rattle.laws.specs.Merging.{region, AllBelow}
 use Rattle.laws.proofs.Tests.{tested}
 use Rattle.laws.proofs.Stores.{getD-after, region-same, sets-over}
 use Rattle.laws.proofs.ListLaws.{length-upFrom}
 use Rattle.snap.specs.Weld.{give}
-use Rattle.snap.specs.Steps.{Nodes, marked, putAll, numberOf, numbers}
+use Rattle.snap.specs.Steps.{marked, putAll, numberOf, numbers}
 
 -- three tests in another order
 or-turn : (a b m : Bool) → (a || (b || m)) ≡ ((b || a) || m)
@@ -54,12 +54,12 @@ module _ (k size v : ℕ) where
   take-put (x ∷ G) l = take-put G (set l (k + x) v) ∙ take-set-le k l (k + x) v (omega arith)
 
   -- what lies behind them stays
-  pub drop-put : (G l : List ℕ) → Nodes size G → drop (k + size) (putAll k v G l) ≡ drop (k + size) l
+  pub drop-put : (G l : List ℕ) → AllBelow size G → drop (k + size) (putAll k v G l) ≡ drop (k + size) l
   drop-put [] l h = refl
   drop-put (x ∷ G) l h = drop-put G (set l (k + x) v) (h .1) ∙ drop-set-lt (k + size) l (k + x) v (omega (arith, h .0))
 
   -- the marks are given to the nodes
-  pub region-put : (G l : List ℕ) → Nodes size G → region k size (putAll k v G l) ≡ give v G (region k size l)
+  pub region-put : (G l : List ℕ) → AllBelow size G → region k size (putAll k v G l) ≡ give v G (region k size l)
   region-put [] l h = refl
   region-put (x ∷ G) l h =
       region-put G (set l (k + x) v) (h .1)

@@ -9,10 +9,10 @@ use lib.Ieee.{Float}
 use lib.ListN.{length, getD, set, take}
 use lib.Seq.{slice, slice-cons, length-slice, sets, length-sets, take-set-le, take-take, getD-set-same}
 use Rattle.laws.specs.Lists.{elem}
-use Rattle.laws.specs.Merging.{region}
+use Rattle.laws.specs.Merging.{region, AllBelow}
 use Rattle.laws.proofs.Stores.{take-before, drop-after, region-after, region-same, slice-region}
 use Rattle.snap.specs.Weld.{takes, groups, spread, give, least}
-use Rattle.snap.specs.Steps.{Nodes, But, marked, putAll, numbers, weldFrom}
+use Rattle.snap.specs.Steps.{But, marked, putAll, numbers, weldFrom}
 use Rattle.snap.proofs.Parts.{slice-to, nodes-rest}
 use Rattle.snap.proofs.Groups.{groups-ext, nodes-takes, length-takes, least-low}
 use Rattle.snap.proofs.Marks.{marked-all, marked-sets, take-put, drop-put, region-put, numbers-give}
@@ -25,7 +25,7 @@ group c t w i e k = getD w i 0 ∷ takes c t (getD w i 0) (marked k w) (slice (i
 abbrev pub after : List Float → Float → List ℕ → ℕ → ℕ → ℕ → ℕ → List ℕ
 after c t w i e g k = putAll k (least (group c t w i e k) + 1) (group c t w i e k) (sets w g (group c t w i e k))
 
-module _ (c : List Float) (t : Float) (w : List ℕ) (i e g k size : ℕ) (h : i < e) (b : e ≤ g) (f : g + (e - i) ≤ k) (r : k + size ≤ length w) (ns : Nodes size (slice i e w)) where
+module _ (c : List Float) (t : Float) (w : List ℕ) (i e g k size : ℕ) (h : i < e) (b : e ≤ g) (f : g + (e - i) ≤ k) (r : k + size ≤ length w) (ns : AllBelow size (slice i e w)) where
   abbrev G : List ℕ
   G = group c t w i e k
 
@@ -56,9 +56,9 @@ module _ (c : List Float) (t : Float) (w : List ℕ) (i e g k size : ℕ) (h : i
   group-length = omega (arith, length-takes c t size (getD w i 0) (marked k w) (slice (i + 1) e w), length-slice (i + 1) e w in-work)
 
   -- its members are nodes
-  pub group-nodes : Nodes size G
+  pub group-nodes : AllBelow size G
   group-nodes =
-      let s = subst (λ (l : List ℕ). Nodes size l) next ns in
+      let s = subst (λ (l : List ℕ). AllBelow size l) next ns in
       (s .0, nodes-takes c t size (getD w i 0) (marked k w) (slice (i + 1) e w) (s .1))
 
   -- its smallest number is a node
@@ -94,7 +94,7 @@ module _ (c : List Float) (t : Float) (w : List ℕ) (i e g k size : ℕ) (h : i
   turn n =
       let z : i ≤ i + 1 = omega arith in
       let m = numbers 0 (region k size w) in
-      let rest : Nodes size (slice (i + 1) e w) = nodes-rest size i (i + 1) e w z ns in
+      let rest : AllBelow size (slice (i + 1) e w) = nodes-rest size i (i + 1) e w z ns in
       let some : 0 < least G + 1 = omega arith in
       let same : (x : ℕ) → x < size → marked k v x ≡ (elem x G || marked k w x) =
       λ x p. marked-all k size (least G + 1) some G (sets w g G) x p (omega (arith, length-sets w g G)) ∙ ap (λ (y : Bool). elem x G || y) (marked-sets k g G w x group-length) in

@@ -9,14 +9,14 @@ use lib.Ieee.{Float, eq}
 use lib.ListN.{length, take, replicate, length-replicate, getD-replicate}
 use lib.Seq.{slice, sets, length-sets, take-take}
 use Rattle.laws.specs.Lists.{sort, upFrom}
-use Rattle.laws.specs.Merging.{region}
+use Rattle.laws.specs.Merging.{region, AllBelow}
 use Rattle.laws.proofs.ListLaws.{length-upFrom}
 use Rattle.laws.proofs.Stores.{take-before, drop-after, region-before, region-same, length-region, slice-region, getD-within}
 use Rattle.laws.proofs.Sorting.{length-sort}
 use Rattle.floats.specs.Floats.{zero64}
 use Rattle.snap.specs.Weld.{beforeOf, groups, spread, welded}
-use Rattle.snap.specs.Steps.{Nodes, But, both, marked, numbers, weldFrom}
-use Rattle.snap.proofs.Parts.{nodes-sort}
+use Rattle.snap.specs.Steps.{But, both, marked, numbers, weldFrom}
+use Rattle.laws.proofs.Bounds.{below-sort}
 use Rattle.snap.proofs.Groups.{groups-ext, length-spread}
 use Rattle.snap.proofs.Marks.{numbers-none, length-numbers}
 
@@ -34,7 +34,7 @@ module _ (l xs : List ℕ) (a k size : ℕ) (d : length xs ≡ size) where
 but-but : (a b t : ℕ) (l v w : List ℕ) → a ≤ b → But a t l v → But b t v w → But a t l w
 but-but a b t l v w h p q = (sym (take-take a b w h) ∙ ap (take a) (q .0) ∙ take-take a b v h ∙ p .0, q .1 ∙ p .1)
 
-module _ (c : List Float) (t : Float) (l : List ℕ) (a s k n size : ℕ) (f : a + n ≤ s) (g : s + n ≤ k) (h : k + size ≤ length l) (ns : Nodes size (region a n l)) where
+module _ (c : List Float) (t : Float) (l : List ℕ) (a s k n size : ℕ) (f : a + n ≤ s) (g : s + n ≤ k) (h : k + size ≤ length l) (ns : AllBelow size (region a n l)) where
   abbrev S : List ℕ
   S = sort (beforeOf c) (region a n l)
 
@@ -65,8 +65,8 @@ module _ (c : List Float) (t : Float) (l : List ℕ) (a s k n size : ℕ) (f : a
       ∙ run-there l S 0 a n sorted-length (omega arith)
 
   -- they are nodes
-  pub sorted-nodes : Nodes size (slice a (a + n) l₂)
-  sorted-nodes = rw sorted-run (nodes-sort (beforeOf c) size (region a n l) ns)
+  pub sorted-nodes : AllBelow size (slice a (a + n) l₂)
+  sorted-nodes = rw sorted-run (below-sort (beforeOf c) size (region a n l) ns)
 
   -- no node is taken yet
   no-marks : (x : ℕ) → x < size → marked k l₂ x ≡ false
@@ -80,7 +80,7 @@ module _ (c : List Float) (t : Float) (l : List ℕ) (a s k n size : ℕ) (f : a
       ap₂ (λ (r m : List ℕ). spread (groups c t (marked k l₂) r) m) sorted-run
       (ap (numbers 0) (run-there l₁ (replicate size 0) 0 k size zeros (omega (arith, l₁-length))) ∙ numbers-none 0 size)
       ∙ ap (λ (gs : List (List ℕ)). spread gs (upFrom 0 size))
-      (groups-ext c t size (marked k l₂) (λ x. false) S (nodes-sort (beforeOf c) size (region a n l) ns) no-marks)
+      (groups-ext c t size (marked k l₂) (λ x. false) S (below-sort (beforeOf c) size (region a n l) ns) no-marks)
 
   -- nothing else has changed so far
   ready-but : But a (k + size) l l₂

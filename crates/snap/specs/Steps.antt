@@ -10,11 +10,6 @@ use lib.Ieee.{Float}
 use Rattle.laws.specs.Merging.{region}
 use Rattle.snap.specs.Weld.{groups, spread, give}
 
--- each number of the list is one of the n nodes
-abbrev pub Nodes : ℕ → List ℕ → Type 0
-Nodes n [] = Unit {0}
-Nodes n (k ∷ ks) = (k < n) × Nodes n ks
-
 -- v is w but for the words in [f, t)
 abbrev pub But : ℕ → ℕ → List ℕ → List ℕ → Type 0
 But f t w v = (take f v ≡ take f w) × (drop t v ≡ drop t w)

@@ -8,12 +8,12 @@ ghost use Prim.Native.Nat.{_+_, _^_, _≤_, _<_};
 ghost use lib.ListN.{length, replicate};
 ghost use lib.Seq.{sets};
 ghost use Rattle.laws.specs.Lists.{upFrom};
-ghost use Rattle.laws.specs.Merging.{region};
+ghost use Rattle.laws.specs.Merging.{region, AllBelow};
 ghost use Rattle.laws.specs.Refusals.{refusal};
 ghost use Rattle.geometry.specs.Coordinates.{nodeCount, coordinatesOff};
 ghost use Rattle.snap.specs.Weld.{welded};
 ghost use Rattle.snap.specs.Welding.{weldTable, Welding};
-ghost use Rattle.snap.specs.Steps.{Nodes, But, numberOf, numbers};
+ghost use Rattle.snap.specs.Steps.{But, numberOf, numbers};
 
 // What welding answers: a refusal's number, or that the map is filled.
 pub enum WeldAnswer {
@@ -75,7 +75,7 @@ pub fn weld_in(
     n: usize,
     size: usize,
 )
-    requires { ⌜ (a + n ≤ s) × (s + n ≤ k) × (k + size ≤ length (now work)) × (size ≡ nodeCount (now coords)) × (size < 2 ^ 32) × Nodes size (region a n (now work)) × (coordinatesOff (now coords) ≡ false) ⌝ }
+    requires { ⌜ (a + n ≤ s) × (s + n ≤ k) × (k + size ≤ length (now work)) × (size ≡ nodeCount (now coords)) × (size < 2 ^ 32) × AllBelow size (region a n (now work)) × (coordinatesOff (now coords) ≡ false) ⌝ }
     ensures { λ _. ⌜ (region k size (now (work .exit)) ≡ welded (now (coords .entry)) tol size (region a n (now (work .entry)))) × But a (k + size) (now (work .entry)) (now (work .exit)) ⌝ }
 {
     if tol == 0.0 {

@@ -3,10 +3,10 @@ ghost use mathlib.Core.Path.{_≡_};
 ghost use Prim.Native.Nat.{_+_, _-_, _^_, _≤_, _<_};
 ghost use lib.ListN.{length, getD};
 ghost use lib.Seq.{sets, slice};
-ghost use Rattle.laws.specs.Merging.{region};
+ghost use Rattle.laws.specs.Merging.{region, AllBelow};
 ghost use Rattle.geometry.specs.Coordinates.{nodeCount};
 ghost use Rattle.snap.specs.Weld.{farOf, nearOf, takes as takesOf, least as leastOf};
-ghost use Rattle.snap.specs.Steps.{Nodes, But, marked, putAll, numbers, weldFrom};
+ghost use Rattle.snap.specs.Steps.{But, marked, putAll, numbers, weldFrom};
 
 // Node n's x minus the leader's exceeds the tolerance.
 fn far(coords: &[f64], tol: f64, p: u32, n: u32) -> bool
@@ -47,7 +47,7 @@ fn takes(
     g: usize,
     k: usize,
 ) -> usize
-    requires { ⌜ (i ≤ e) × (e ≤ g) × (g + 1 + (e - i) ≤ k) × (k + nodeCount (now coords) ≤ length (now work)) × (getD (now work) g 0 < nodeCount (now coords)) × Nodes (nodeCount (now coords)) (slice i e (now work)) ⌝ }
+    requires { ⌜ (i ≤ e) × (e ≤ g) × (g + 1 + (e - i) ≤ k) × (k + nodeCount (now coords) ≤ length (now work)) × (getD (now work) g 0 < nodeCount (now coords)) × AllBelow (nodeCount (now coords)) (slice i e (now work)) ⌝ }
     ensures { λ r. ⌜ (r ≡ g + 1 + length (takesOf (now (coords .entry)) tol (getD (now (work .entry)) g 0) (marked k (now (work .entry))) (slice i e (now (work .entry))))) × (now (work .exit) ≡ sets (now (work .entry)) (g + 1) (takesOf (now (coords .entry)) tol (getD (now (work .entry)) g 0) (marked k (now (work .entry))) (slice i e (now (work .entry))))) ⌝ }
 {
     let mut j = i;
@@ -93,7 +93,7 @@ fn least(work: &[u32], g: usize, e: usize) -> u32
 
 // Each of the nodes in [g, e) of work gets the mark v, among the words from k on.
 fn put(work: &mut [u32], g: usize, e: usize, k: usize, size: usize, v: u32)
-    requires { ⌜ (g ≤ e) × (e ≤ k) × (k + size ≤ length (now work)) × Nodes size (slice g e (now work)) ⌝ }
+    requires { ⌜ (g ≤ e) × (e ≤ k) × (k + size ≤ length (now work)) × AllBelow size (slice g e (now work)) ⌝ }
     ensures { λ _. ⌜ now (work .exit) ≡ putAll k v (slice g e (now (work .entry))) (now (work .entry)) ⌝ }
 {
     let mut j = g;
@@ -114,7 +114,7 @@ fn lead(
     k: usize,
     size: usize,
 )
-    requires { ⌜ (i < e) × (e ≤ g) × (g + (e - i) ≤ k) × (k + size ≤ length (now work)) × (size ≡ nodeCount (now coords)) × (size < 2 ^ 32) × Nodes size (slice i e (now work)) ⌝ }
+    requires { ⌜ (i < e) × (e ≤ g) × (g + (e - i) ≤ k) × (k + size ≤ length (now work)) × (size ≡ nodeCount (now coords)) × (size < 2 ^ 32) × AllBelow size (slice i e (now work)) ⌝ }
     ensures { λ _. ⌜ (weldFrom (now (coords .entry)) tol k size (i + 1) e (now (work .exit)) ≡ weldFrom (now (coords .entry)) tol k size i e (now (work .entry))) × But g (k + size) (now (work .entry)) (now (work .exit)) ⌝ }
 {
     let p = work[i];
@@ -138,7 +138,7 @@ pub fn sweep(
     k: usize,
     size: usize,
 )
-    requires { ⌜ (o ≤ e) × (e ≤ g) × (g + (e - o) ≤ k) × (k + size ≤ length (now work)) × (size ≡ nodeCount (now coords)) × (size < 2 ^ 32) × Nodes size (slice o e (now work)) ⌝ }
+    requires { ⌜ (o ≤ e) × (e ≤ g) × (g + (e - o) ≤ k) × (k + size ≤ length (now work)) × (size ≡ nodeCount (now coords)) × (size < 2 ^ 32) × AllBelow size (slice o e (now work)) ⌝ }
     ensures { λ _. ⌜ (numbers 0 (region k size (now (work .exit))) ≡ weldFrom (now (coords .entry)) tol k size o e (now (work .entry))) × But g (k + size) (now (work .entry)) (now (work .exit)) ⌝ }
 {
     let mut i = o;

@@ -24,7 +24,7 @@ returns c =
     let a = c .before .before .before .before .before .before .before .args in
     let m = modelOf (a .coords .now) (a .kinds .now) (a .ends .now) (a .words .now) (a .tol) (a .checks .0) 0 in
     let e5 = sym (shape-is m) ∙ sym (c .before .before .shape-off .ensures) ∙ c .before .if1 .taken in
-    model-refused m _ 5 (row5 m e5) (λ z. omega arith) (c .refused .ensures .0)
+    model-refused m _ 5 (row5 m e5) (λ z. omega arith) (c .refused .ensures)
 
 tolerance-off-requires : tie.Need-tolerance-off-requires
 tolerance-off-requires c κs = search needs
@@ -38,7 +38,7 @@ returns-2 c =
     let m = modelOf (a .coords .now) (a .kinds .now) (a .ends .now) (a .words .now) (a .tol) (a .checks .0) 0 in
     let e5 = sym (shape-is m) ∙ sym (c .before .before .before .before .shape-off .ensures) ∙ c .before .before .before .if1 .left in
     let e6 = sym (c .before .before .tolerance-off .ensures) ∙ c .before .if2 .taken in
-    model-refused m _ 6 (row6 m e5 e6) (λ z. omega arith) (c .refused2 .ensures .0)
+    model-refused m _ 6 (row6 m e5 e6) (λ z. omega arith) (c .refused2 .ensures)
 
 coordinates-off-requires : tie.Need-coordinates-off-requires
 coordinates-off-requires c κs = search needs
@@ -53,7 +53,7 @@ returns-3 c =
     let e5 = sym (shape-is m) ∙ sym (c .before .before .before .before .before .before .shape-off .ensures) ∙ c .before .before .before .before .before .if1 .left in
     let e6 = sym (c .before .before .before .before .tolerance-off .ensures) ∙ c .before .before .before .if2 .left in
     let e7 = sym (c .before .before .coordinates-off .ensures) ∙ c .before .if3 .taken in
-    model-refused m _ 7 (row7 m e5 e6 e7) (λ z. omega arith) (c .refused3 .ensures .0)
+    model-refused m _ 7 (row7 m e5 e6 e7) (λ z. omega arith) (c .refused3 .ensures)
 
 refused-requires-4 : tie.Need-refused-requires-4
 refused-requires-4 c κs = search needs
@@ -65,7 +65,7 @@ returns-4 c =
     let e5 = sym (shape-is m) ∙ sym (c .before .before .before .before .before .before .before .shape-off .ensures) ∙ c .before .before .before .before .before .before .if1 .left in
     let e6 = sym (c .before .before .before .before .before .tolerance-off .ensures) ∙ c .before .before .before .before .if2 .left in
     let e7 = sym (c .before .before .before .coordinates-off .ensures) ∙ c .before .before .if3 .left in
-    model-refused m _ 8 (row8 m e5 e6 e7 (c .before .if4 .taken)) (λ z. omega arith) (c .refused4 .ensures .0)
+    model-refused m _ 8 (row8 m e5 e6 e7 (c .before .if4 .taken)) (λ z. omega arith) (c .refused4 .ensures)
 
 tally-cells-requires : tie.Need-tally-cells-requires
 tally-cells-requires c κs =
@@ -89,7 +89,7 @@ returns-5 c =
     let w : Before9 m = record { shape = e5; tolerance = e6; coordinates = e7; some = c .before .before .before .before .if4 .left } in
     let n = c .before .before .before .tally-cells .ensures .refusal in
     let z = c .before .if5 .taken in
-    model-refused m _ _ (row9 m w (λ y. z (n ∙ y))) (λ y. z (n ∙ y)) (c .refused5 .ensures .0 ∙ n)
+    model-refused m _ _ (row9 m w (λ y. z (n ∙ y))) (λ y. z (n ∙ y)) (let e = c .refused5 .ensures in (e .0 ∙ n, e .1, e .2))
 
 refused-requires-6 : tie.Need-refused-requires-6
 refused-requires-6 c κs = search needs
@@ -104,7 +104,7 @@ returns-6 c =
     let e7 = sym (c .before .before .before .before .before .before .before .before .coordinates-off .ensures) ∙ c .before .before .before .before .before .before .before .if3 .left in
     let w : Before9 m = record { shape = e5; tolerance = e6; coordinates = e7; some = c .before .before .before .before .before .before .if4 .left } in
     let n = c .before .before .before .before .before .tally-cells .ensures .refusal in
-    model-refused m _ 10 (row10 m w (sym n ∙ c .before .before .before .if5 .left) (c .before .if6 .taken)) (λ z. omega arith) (c .refused6 .ensures .0)
+    model-refused m _ 10 (row10 m w (sym n ∙ c .before .before .before .if5 .left) (c .before .if6 .taken)) (λ z. omega arith) (c .refused6 .ensures)
 
 returns-7 : tie.Need-returns-7
 unfolding cellsOf

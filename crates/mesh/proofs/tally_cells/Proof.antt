@@ -77,7 +77,7 @@ returns c =
     let t = c .before .before .before .tally-cell in
     let z = c .before .if1 .taken in
     let e = c .refused .ensures .0 in
-    cells-refused (s .args .nodes) _ _ (e ∙ refused-at (s .args .kinds .now) (s .args .ends .now) (s .args .words .now) (s .args .nodes) (at .loop .faces) (at .loop .ring-words) (at .loop .at) (at .loop .before) (at .loop .i) (at .loop .inv) (s .pre .0) (c .before .before .before .before .before .before .before .before .loop-test .taken) _ (c .before .before .before .before .before .before .wide .ensures .0) (c .before .before .before .tally-cell .result) (t .ensures) z) (λ y. z (sym e ∙ y))
+    cells-refused (s .args .nodes) _ _ (e ∙ refused-at (s .args .kinds .now) (s .args .ends .now) (s .args .words .now) (s .args .nodes) (at .loop .faces) (at .loop .ring-words) (at .loop .at) (at .loop .before) (at .loop .i) (at .loop .inv) (s .pre .0) (c .before .before .before .before .before .before .before .before .loop-test .taken) _ (c .before .before .before .before .before .before .wide .ensures .0) (c .before .before .before .tally-cell .result) (t .ensures) z) (λ y. z (sym e ∙ y)) (c .refused .ensures .1) (c .refused .ensures .2)
 
 add-faces : tie.Need-add-faces Inv-loop μ-loop
 add-faces c =
@@ -110,7 +110,7 @@ returns-2 : tie.Need-returns-2 Inv-loop μ-loop
 returns-2 c =
     let at = c .before in
     let s = c .before .before .before .before .before in
-    counting-end (s .args .kinds .now) (s .args .ends .now) (s .args .words .now) (s .args .nodes) (at .loop .faces) (at .loop .ring-words) (at .loop .at) (at .loop .before) (at .loop .i) _ (at .loop .inv) (omega arith) refl refl refl
+    counting-end (s .args .kinds .now) (s .args .ends .now) (s .args .words .now) (s .args .nodes) (at .loop .faces) (at .loop .ring-words) (at .loop .at) (at .loop .before) (at .loop .i) _ (at .loop .inv) (s .pre .2) (s .pre .3) (omega arith) refl refl refl
 
 pub tally-cells-spec : {M : Type 1} → statement M
 tally-cells-spec =

@@ -8,7 +8,7 @@ use borrow.Author.Needs.{needs}
 use lib.ListN.{length, getD, set, length-set}
 use lib.Seq.{slice, sets, take-set-le}
 use Rattle.snap.specs.Weld.{least}
-use Rattle.snap.specs.Steps.{Nodes}
+use Rattle.laws.specs.Merging.{AllBelow}
 use Rattle.snap.proofs.Parts.{in-slice, slice-to, nodes-rest}
 use Rattle.snap.proofs.Turn.{group, stands, same-takes, group-length, group-nodes, group-run, least-node, turn-but, skipped, turn}
 use Rattle.snap.proofs.sweeping.lead.Statement.{statement}
@@ -21,11 +21,11 @@ led s = group (s .args .coords .now) (s .args .tol) (s .args .work .now) (s .arg
 fits : (s : tie.Start) → s .args .g + length (led s) ≤ s .args .k
 fits s = group-length (s .args .coords .now) (s .args .tol) (s .args .work .now) (s .args .i) (s .args .e) (s .args .g) (s .args .k) (s .args .size) (s .pre .0) (s .pre .1) (s .pre .2) (s .pre .3) (s .pre .6)
 
-nodes : (s : tie.Start) → Nodes (s .args .size) (led s)
+nodes : (s : tie.Start) → AllBelow (s .args .size) (led s)
 nodes s = group-nodes (s .args .coords .now) (s .args .tol) (s .args .work .now) (s .args .i) (s .args .e) (s .args .g) (s .args .k) (s .args .size) (s .pre .0) (s .pre .1) (s .pre .2) (s .pre .3) (s .pre .6)
 
 -- the node at i is one
-leader : (s : tie.Start) → Nodes (s .args .size) (getD (s .args .work .now) (s .args .i) 0 ∷ [])
+leader : (s : tie.Start) → AllBelow (s .args .size) (getD (s .args .work .now) (s .args .i) 0 ∷ [])
 leader s = let x : s .args .e ≤ length (s .args .work .now) = omega arith in (in-slice _ (s .args .i) (s .args .e) (s .args .i) (s .args .work .now) x (s .pre .6) (omega arith) (s .pre .0), tt)
 
 mul-p : tie.Need-mul-p
