@@ -6,21 +6,11 @@ use native.Mathlib.Omega.{arith}
 use lib.ListN.{length, take, drop, length-append, length-take, length-drop, take-append-drop}
 use lib.Seq.{take-at, drop-at, length-take-le}
 use lib.Ieee.{Float}
-use Rattle.laws.specs.Lists.{each}
-use Rattle.mesh.specs.Model.{Raw, cellsFrom}
-use Rattle.mesh.specs.Steps.{cellWith}
-use Rattle.model_file.specs.File.{nodeRecords, moreRecords, cellRecords, chop, records, lastOf}
+use Rattle.model_file.specs.File.{nodeRecords, moreRecords, chop, records, lastOf}
+use Rattle.model_file.specs.Steps.{join, cells}
 use Rattle.model_file.specs.Held.{All, Byte}
 use Rattle.model_file.proofs.Numbers.{all-append, all-take, all-drop}
 use Rattle.model_file.proofs.Layouts.{word-length}
-
--- records, one after the other
-abbrev pub join : List (List ℕ) → List ℕ
-join rs = each (λ r. r) rs
-
--- the records of the cells whose first word stands at a place
-abbrev pub cells : ℕ → List ℕ → List ℕ → List ℕ → List (List ℕ)
-cells at ks es ws = each cellRecords (cellsFrom at ks es ws)
 
 -- a record of 32 bytes
 abbrev pub Whole : List ℕ → Type 0

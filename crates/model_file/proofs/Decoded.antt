@@ -15,6 +15,7 @@ use Rattle.laws.proofs.Tests.{and-parts, clash}
 use Rattle.mesh.specs.Model.{Raw}
 use Rattle.mesh.specs.Steps.{cellWith}
 use Rattle.model_file.specs.Records.{wordsAt, wordRecord, cellRecord, moreRecord, letter, byte1, count, coordsIn, kindsIn, wordsIn, endsIn, stage, misplaced, wordsRight, recordOff}
+use Rattle.model_file.specs.Steps.{cells, judge}
 use Rattle.model_file.specs.Held.{All, Byte}
 use Rattle.model_file.specs.File.{nodeRecords, moreRecords, cellRecords, coordsOf, kindsOf, wordsOf, endsOf, opens, lastOf}
 use Rattle.model_file.specs.declared.Letter.{Letter}
@@ -22,8 +23,8 @@ use Rattle.model_file.specs.declared.Letter.the-variants.{Node, Cell, Mo
 use Rattle.model_file.proofs.Numbers.{all-left, all-right}
 use Rattle.model_file.proofs.Fields.{length-wordsAt}
 use Rattle.model_file.proofs.Layouts.{Real, marked, node-back, word-back}
-use Rattle.model_file.proofs.Judgement.{judge, passed, after-last, none-left, word-count, stage-lt, stage-pos}
-use Rattle.model_file.proofs.Chop.{Whole, cells}
+use Rattle.model_file.proofs.Judgement.{passed, after-last, none-left, word-count, stage-lt, stage-pos}
+use Rattle.model_file.proofs.Chop.{Whole}
 
 last-cons : (r : List ℕ) (rs : List (List ℕ)) → 1 ≤ length rs → lastOf (r ∷ rs) ≡ lastOf rs
 last-cons r [] h = absurd (omega arith)

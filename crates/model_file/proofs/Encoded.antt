@@ -17,10 +17,10 @@ use Rattle.mesh.specs.Steps.{cellWith}
 use Rattle.mesh.proofs.CellTallies.{ends-most}
 use Rattle.model_file.specs.Records.{lastRecord}
 use Rattle.model_file.specs.File.{nodeRecords, moreRecords, cellRecords, coordsOf, kindsOf, wordsOf, endsOf}
+use Rattle.model_file.specs.Steps.{cells, judge}
 use Rattle.model_file.specs.Held.{All, Fits}
 use Rattle.model_file.proofs.Numbers.{all-take, all-drop}
-use Rattle.model_file.proofs.Judgement.{judge, stage-lt}
-use Rattle.model_file.proofs.Chop.{cells}
+use Rattle.model_file.proofs.Judgement.{stage-lt}
 use Rattle.model_file.proofs.Fields.{Word, words-bytes}
 use Rattle.model_file.proofs.Layouts.{node-coords, word-right}
 

@@ -7,16 +7,11 @@ use mathlib.Core.List.{List, [], _∷_}
 use native.Mathlib.Omega.{arith}
 use lib.Dec.{eqb, leb}
 use borrow.Author.Tests.{eqb-true, leb-true}
-use Rattle.laws.specs.Refusals.{refusal}
 use Rattle.laws.proofs.Tests.{and-parts, clash}
 use Rattle.model_file.specs.Records.{letter, count, stage, misplaced, wordsRight, recordOff}
-use Rattle.model_file.specs.File.{recordsTable}
+use Rattle.model_file.specs.Steps.{judge}
 use Rattle.model_file.specs.declared.Letter.{Letter}
 use Rattle.model_file.specs.declared.Letter.the-variants.{Node, Cell, More, Last, Other}
-
--- the refusal of records from a stage on
-abbrev pub judge : ℕ → List (List ℕ) → ℕ
-judge s rs = refusal (recordsTable s rs)
 
 -- the first record passes, and so do the rest
 pub record Passed (s : ℕ) (r : List ℕ) (rs : List (List ℕ)) (l : Letter) : Type 0 where
