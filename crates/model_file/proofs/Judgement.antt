@@ -19,7 +19,8 @@ pub record Passed (s : ℕ) (r : List ℕ) (rs : List (List ℕ)) (l : Letter) :
   pub good : recordOff l r ≡ false
   pub rest : judge (stage l r) rs ≡ 0
 
-two-rows : (p q : Bool) (n : ℕ) → _≡_ {A = ℕ} (cond p 2 (cond q 3 n)) 0 → (p ≡ false) × ((q ≡ false) × (n ≡ 0))
+-- neither row of a record holds
+pub two-rows : (p q : Bool) (n : ℕ) → _≡_ {A = ℕ} (cond p 2 (cond q 3 n)) 0 → (p ≡ false) × ((q ≡ false) × (n ≡ 0))
 two-rows false false n e = (refl, (refl, e))
 two-rows true q n e = absurd (omega arith)
 two-rows false true n e = absurd (omega arith)
