@@ -1,5 +1,6 @@
 // The judging pass: records one by one, nothing stored.
 ghost use mathlib.Core.Path.{_≡_};
+ghost use mathlib.Core.Bool.{cond};
 ghost use Prim.Native.Nat.{_%_, _≤_, _<_, _^_};
 ghost use lib.ListN.{length};
 ghost use lib.Seq.{slice};
@@ -132,18 +133,27 @@ fn stage_after(l: Letter, r: &[u8]) -> u8
     }
 }
 
+// The number of the first of two tests that holds, 0 for none.
+fn first_of(a: bool, n: u8, b: bool, m: u8) -> u8
+    ensures { λ r. ⌜ r ≡ cond a n (cond b m 0) ⌝ }
+{
+    if a {
+        return n;
+    }
+    if b {
+        return m;
+    }
+    0
+}
+
 // 2 before 3.
 fn refusal_of(s: u8, l: Letter, r: &[u8]) -> u8
     requires { ⌜ (length (now r) ≡ 32) × (l ≡ letter (now r)) ⌝ }
     ensures { λ n. ⌜ n ≡ recordRefusal s (now (r .entry)) ⌝ }
 {
-    if letter_off(s, l) {
-        return 2;
-    }
-    if record_off(l, r) {
-        return 3;
-    }
-    0
+    let misplaced = letter_off(s, l);
+    let wrong = record_off(l, r);
+    first_of(misplaced, 2, wrong, 3)
 }
 
 // The place after a record.
