@@ -2,7 +2,7 @@
 """model_files.py VECTORS: fills crates/model_files/data from the folder of published cases, and writes what the program must print.
 
 A reading of docs/FORMAT.md of its own: it judges and takes apart each file, judges the model by 5 to 10, and expects the same bytes back
-from each model that passes."""
+from each model that passes. Case 900 is the worked example of that page."""
 import math
 import os
 import shutil
@@ -132,6 +132,13 @@ def good():
     return out + struct.pack("<BBH4xd16x", 84, 3, 9, 0.001)
 
 
+def example():
+    """The worked example of docs/FORMAT.md, from the page itself."""
+    page = os.path.join(os.path.dirname(os.path.abspath(__file__)), "..", "docs", "FORMAT.md")
+    rows = [line for line in open(page) if line.startswith("    ")]
+    return b"".join(bytes.fromhex(row[8:55]) for row in rows)
+
+
 def damages(data):
     lines = ["".join(outcome(data[:32 * n])[1] for n in range(len(data) // 32 + 1))]
     for by in (1, 128):
@@ -159,7 +166,7 @@ def main():
     top = os.path.join(os.path.dirname(os.path.abspath(__file__)), "..", "crates", "model_files")
     shutil.rmtree(os.path.join(top, "data"), ignore_errors=True)
     os.mkdir(os.path.join(top, "data"))
-    files = wanted(sys.argv[1])
+    files = wanted(sys.argv[1]) + [("case-0900.in", example())]
     for name, data in files + [("good.in", good())]:
         with open(os.path.join(top, "data", name), "wb") as f:
             f.write(data)
