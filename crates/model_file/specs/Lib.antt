@@ -3,3 +3,5 @@ pub mod Records
 pub mod File
 pub mod Reading
 pub mod Writing
+pub mod Held
+pub mod Steps

@@ -1,0 +1,24 @@
+-- What the types of lent slices say of a model and of bytes: each value fits its type.
+use Prim.Native.Nat.{ℕ, _<_}
+use mathlib.Core.List.{List, [], _∷_}
+use lib.Dec.{T}
+use lib.Ieee.{Float, binary64, fits}
+use Rattle.mesh.specs.Model.{Model}
+
+-- P holds of each element
+abbrev pub All : {A : Type 0} → (A → Type 0) → List A → Type 0
+All P [] = Unit {0}
+All P (x ∷ xs) = P x × All P xs
+
+abbrev pub Byte : ℕ → Type 0
+Byte b = b < 256
+
+-- a value of an f64
+abbrev pub Fits : Float → Type 0
+Fits x = T (fits binary64 x)
+
+-- A model's coordinates and tolerance are values of an f64, its cap one of 16 bits. What else a file needs follows from acceptance.
+pub record Held (m : Model) : Type 0 where
+  pub coords : All Fits (m .coords)
+  pub tolerance : Fits (m .tolerance)
+  pub cap : m .cap < 65536

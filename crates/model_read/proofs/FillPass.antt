@@ -1,0 +1,172 @@
+-- The filling pass: what holds at a place of the file, and what a record changes.
+use Prim.Native.Nat.{ℕ, _+_, _-_, _≤_, _<_}
+use mathlib.Core.Path.{_≡_, refl, sym, ap, _∙_, subst}
+use mathlib.Core.List.{List, [], _∷_, _++_}
+use mathlib.Core.Bool.{Bool, true, false, cond}
+use native.Mathlib.Nat.{add-zero}
+use native.Mathlib.Omega.{arith}
+use lib.ListN.{length, take, drop, length-append}
+use lib.Seq.{sets, length-sets}
+use lib.Dec.{ltb}
+use lib.Ieee.{Float}
+use borrow.Author.Tests.{ltb-true, ltb-false, lt-ltb}
+use Rattle.laws.specs.Lists.{onlyIf}
+use Rattle.laws.specs.Refusals.{refusal}
+use Rattle.laws.proofs.Stores.{sets-append}
+use Rattle.laws.proofs.Tests.{clash}
+use Rattle.model_file.specs.Records.{letter, count, coordsIn, kindsIn, wordsIn, endsIn, stage, misplaced, recordOff}
+use Rattle.model_file.specs.File.{records, coordsOf, kindsOf, wordsOf, endsOf, opens}
+use Rattle.model_file.specs.Steps.{judge, recordRefusal}
+use Rattle.model_read.specs.Steps.{Room, Put, Fitting, Filled}
+use Rattle.model_file.specs.declared.Letter.{Letter}
+use Rattle.model_file.specs.declared.Letter.the-variants.{Node, Cell, More, Last, Other}
+use Rattle.model_read.specs.declared.Place.{Place}
+use Rattle.model_file.proofs.Judgement.{two-rows, passed, after-last, none-left, stage-lt}
+use Rattle.model_file.proofs.Decoded.{kinds-step, ends-step}
+use Rattle.model_read.proofs.JudgePass.{Judging, judging-start, judging-step, records-step, records-end, fits, part-length, part32, little}
+
+-- ---- the ends: where the next goes, and whether a cell is open
+
+-- one record's end, and those after it
+next-end : (cells w : ℕ) (ends : List ℕ) (l : Letter) (r : List ℕ) (rs : List (List ℕ)) → (l ≡ Last → rs ≡ [])
+    → sets (sets ends (cells - 1) (endsIn l (ltb 0 cells) w)) (cells + length (kindsIn l r) - 1) (endsOf (ltb 0 (cells + length (kindsIn l r))) (w + length (wordsIn l r)) rs)
+    ≡ sets ends (cells - 1) (endsIn l (ltb 0 cells) w ++ endsOf (opens l (ltb 0 cells)) (w + length (wordsIn l r)) rs)
+next-end cells w ends Node r rs h = ap (λ (k : ℕ). sets ends (k - 1) (endsOf (ltb 0 k) (w + 0) rs)) (add-zero cells)
+next-end cells w ends More r rs h = ap (λ (k : ℕ). sets ends (k - 1) (endsOf (ltb 0 k) (w + length (wordsIn More r)) rs)) (add-zero cells)
+next-end cells w ends Other r rs h = ap (λ (k : ℕ). sets ends (k - 1) (endsOf (ltb 0 k) (w + 0) rs)) (add-zero cells)
+next-end cells w ends Cell r rs h =
+    let one = lt-ltb 0 (cells + 1) (omega arith) in
+    (λ i. sets (sets ends (cells - 1) (onlyIf (ltb 0 cells) (w ∷ []))) (go (ltb 0 cells) refl i) (endsOf (one i) (w + length (wordsIn Cell r)) rs))
+    ∙ sym (sets-append ends (cells - 1) (onlyIf (ltb 0 cells) (w ∷ [])) (endsOf true (w + length (wordsIn Cell r)) rs))
+  where
+    go : (b : Bool) → ltb 0 cells ≡ b → cells + 1 - 1 ≡ cells - 1 + length (onlyIf b (w ∷ []))
+    go true e = let q = ltb-true 0 cells e in omega arith
+    go false e = let q = ltb-false 0 cells e in omega arith
+next-end cells w ends Last r rs h = rw (h refl) (sym (sets-append ends (cells - 1) (onlyIf (ltb 0 cells) (w ∷ [])) []))
+
+-- as many ends as cells
+ends-count : (rs : List (List ℕ)) (s : ℕ) (b : Bool) (at : ℕ) → s < 3 → judge s rs ≡ 0 → length (endsOf b at rs) ≡ cond b 1 0 + length (kindsOf rs)
+ends-count [] s b at lt j = absurd (none-left s lt j)
+ends-count (r ∷ rs) s b at lt j = go (letter r) refl (λ t c n u k. ends-count rs t c n u k)
+  where
+    go : (l : Letter) → letter r ≡ l → ((t : ℕ) (c : Bool) (n : ℕ) → t < 3 → judge t rs ≡ 0 → length (endsOf c n rs) ≡ cond c 1 0 + length (kindsOf rs)) → length (endsOf b at (r ∷ rs)) ≡ cond b 1 0 + length (kindsOf (r ∷ rs))
+    go Node e ih = ap length (ends-step r rs Node e b at) ∙ ih 0 b (at + 0) (omega arith) (passed s r rs Node e j .rest) ∙ ap (λ (x : List ℕ). cond b 1 0 + length x) (sym (kinds-step r rs Node e))
+    go More e ih = ap length (ends-step r rs More e b at) ∙ ih (stage More r) b (at + length (wordsIn More r)) (stage-lt (count r)) (passed s r rs More e j .rest) ∙ ap (λ (x : List ℕ). cond b 1 0 + length x) (sym (kinds-step r rs More e))
+    go Other e ih = clash refl (passed s r rs Other e j .place)
+    go Cell e ih =
+        let i = ih (stage Cell r) true (at + length (wordsIn Cell r)) (stage-lt (count r)) (passed s r rs Cell e j .rest) in
+        let k = ap length (kinds-step r rs Cell e) in
+        let n = ap length (ends-step r rs Cell e b at) ∙ length-append (onlyIf b (at ∷ [])) (endsOf true (at + length (wordsIn Cell r)) rs) in
+        let m = ended b in
+        omega arith
+      where
+        ended : (b : Bool) → length (onlyIf b (at ∷ [])) ≡ cond b 1 0
+        ended true = refl
+        ended false = refl
+    go Last e ih =
+        let n = after-last rs (passed s r rs Last e j .rest) in
+        ap length (ends-step r rs Last e b at ∙ ap (λ (x : List (List ℕ)). onlyIf b (at ∷ []) ++ endsOf b (at + 0) x) n)
+        ∙ ended b
+        ∙ ap (λ (x : List ℕ). cond b 1 0 + length x) (sym (kinds-step r rs Last e ∙ ap kindsOf n))
+      where
+        ended : (b : Bool) → length (onlyIf b (at ∷ []) ++ []) ≡ cond b 1 0 + 0
+        ended true = refl
+        ended false = refl
+
+-- of a whole file
+pub ends-as-cells : (rs : List (List ℕ)) → judge 0 rs ≡ 0 → length (endsOf false 0 rs) ≡ length (kindsOf rs)
+ends-as-cells rs j = let e = ends-count rs 0 false 0 (omega arith) j in omega arith
+
+-- ---- the pass
+
+-- the lists so far, and what is left
+pub record Filling (s : List ℕ) (coords₀ : List Float) (kinds₀ ends₀ words₀ : List ℕ) (coords : List Float) (kinds ends words : List ℕ) (p : Place) (at : ℕ) : Type 0 where
+  pub st : ℕ
+  pub judging : Judging s st p at
+  pub coords-are : sets coords (p .coords) (coordsOf (records (drop at s))) ≡ sets coords₀ 0 (coordsOf (records s))
+  pub kinds-are : sets kinds (p .cells) (kindsOf (records (drop at s))) ≡ sets kinds₀ 0 (kindsOf (records s))
+  pub ends-are : sets ends (p .cells - 1) (endsOf (ltb 0 (p .cells)) (p .words) (records (drop at s))) ≡ sets ends₀ 0 (endsOf false 0 (records s))
+  pub words-are : sets words (p .words) (wordsOf (records (drop at s))) ≡ sets words₀ 0 (wordsOf (records s))
+  pub coords-long : length coords ≡ length coords₀
+  pub kinds-long : length kinds ≡ length kinds₀
+  pub ends-long : length ends ≡ length ends₀
+  pub words-long : length words ≡ length words₀
+
+module _ (s : List ℕ) (coords₀ : List Float) (kinds₀ ends₀ words₀ : List ℕ) (ok : Fitting s (length coords₀) (length kinds₀) (length ends₀) (length words₀)) where
+  -- the start of the pass
+  pub filling-start : Filling s coords₀ kinds₀ ends₀ words₀ coords₀ kinds₀ ends₀ words₀ (record { coords = 0; cells = 0; words = 0 }) 0
+  filling-start = record { st = 0; judging = judging-start s (ok .whole); coords-are = refl; kinds-are = refl; ends-are = refl; words-are = refl; coords-long = refl; kinds-long = refl; ends-long = refl; words-long = refl }
+
+  module _ (coords : List Float) (kinds ends words : List ℕ) (p : Place) (at : ℕ) (f : Filling s coords₀ kinds₀ ends₀ words₀ coords kinds ends words p at) (lt : at < length s) where
+    -- a whole record is left, and not refused
+    room : at + 32 ≤ length s
+    room = fits s (f .st) p at (f .judging) lt
+
+    well : (recordRefusal (f .st) (take 32 (drop at s)) ≡ 0) × (judge (stage (letter (take 32 (drop at s))) (take 32 (drop at s))) (records (drop (at + 32) s)) ≡ 0)
+    well =
+        let x = take 32 (drop at s) in
+        let h = sym (ap (judge (f .st)) (records-step s at room)) ∙ f .judging .judged ∙ ok .judgedWell in
+        let q = two-rows (misplaced (f .st) (letter x)) (recordOff (letter x) x) (judge (stage (letter x) x) (records (drop (at + 32) s))) h in
+        (rw (q .0, q .1 .0) refl, q .1 .1)
+
+    -- there is room for it
+    pub filling-room : Room (take 32 (drop at s)) p (length coords) (length kinds) (length ends) (length words)
+    filling-room =
+        let x = take 32 (drop at s) in
+        let q = two-rows (misplaced (f .st) (letter x)) (recordOff (letter x) x) 0 (well .0) in
+        let few = little (letter x) x (q .1 .0) in
+        let j = f .judging in
+        let t = records-step s at room in
+        let a = ap (λ (y : List (List ℕ)). length (coordsOf y)) t ∙ length-append (coordsIn (letter x) x) (coordsOf (records (drop (at + 32) s))) in
+        let b = ap (λ (y : List (List ℕ)). length (kindsOf y)) t ∙ length-append (kindsIn (letter x) x) (kindsOf (records (drop (at + 32) s))) in
+        let c = ap (λ (y : List (List ℕ)). length (wordsOf y)) t ∙ length-append (wordsIn (letter x) x) (wordsOf (records (drop (at + 32) s))) in
+        let long = ap length (sym (part32 s at)) ∙ part-length s at room in
+        record {
+          long = long;
+          little = few .words;
+          coordsFit = omega (arith, a, j .coords, ok .coordsFit, f .coords-long);
+          kindsFit = omega (arith, b, j .cells, ok .kindsFit, f .kinds-long);
+          endsFit = omega (arith, j .cells, ok .endsFit, f .ends-long);
+          wordsFit = omega (arith, c, j .words, ok .wordsFit, f .words-long);
+          fewCoords = omega (arith, j .few-coords, ok .short, lt);
+          fewCells = omega (arith, j .few-cells, ok .short, lt);
+          fewWords = omega (arith, j .few-words, ok .short, lt);
+        }
+
+    -- it is stored
+    pub filling-step : (coords' : List Float) (kinds' ends' words' : List ℕ) (q : Place) → Put (take 32 (drop at s)) p q coords coords' kinds kinds' ends ends' words words'
+        → Filling s coords₀ kinds₀ ends₀ words₀ coords' kinds' ends' words' q (at + 32)
+    filling-step coords' kinds' ends' words' q u =
+        let x = take 32 (drop at s) in
+        let rs = records (drop (at + 32) s) in
+        let t = records-step s at room in
+        let l = letter x in
+        subst (λ (y : Place). Filling s coords₀ kinds₀ ends₀ words₀ coords' kinds' ends' words' y (at + 32)) (sym (u .place))
+        (record {
+          st = stage (letter x) x;
+          judging = judging-step s (f .st) p at (f .judging) lt (well .0);
+          coords-are = ap (λ (y : List Float). sets y (p .coords + length (coordsIn l x)) (coordsOf rs)) (u .coordsAre) ∙ sym (ap (λ (y : List (List ℕ)). sets coords (p .coords) (coordsOf y)) t ∙ sets-append coords (p .coords) (coordsIn l x) (coordsOf rs)) ∙ f .coords-are;
+          kinds-are = ap (λ (y : List ℕ). sets y (p .cells + length (kindsIn l x)) (kindsOf rs)) (u .kindsAre) ∙ sym (ap (λ (y : List (List ℕ)). sets kinds (p .cells) (kindsOf y)) t ∙ sets-append kinds (p .cells) (kindsIn l x) (kindsOf rs)) ∙ f .kinds-are;
+          ends-are =
+              ap (λ (y : List ℕ). sets y (p .cells + length (kindsIn l x) - 1) (endsOf (ltb 0 (p .cells + length (kindsIn l x))) (p .words + length (wordsIn l x)) rs)) (u .endsAre)
+              ∙ next-end (p .cells) (p .words) ends l x rs (λ e. after-last rs (ap (λ (k : Letter). judge (stage k x) rs) (sym e) ∙ well .1))
+              ∙ sym (ap (λ (y : List (List ℕ)). sets ends (p .cells - 1) (endsOf (ltb 0 (p .cells)) (p .words) y)) t)
+              ∙ f .ends-are;
+          words-are = ap (λ (y : List ℕ). sets y (p .words + length (wordsIn l x)) (wordsOf rs)) (u .wordsAre) ∙ sym (ap (λ (y : List (List ℕ)). sets words (p .words) (wordsOf y)) t ∙ sets-append words (p .words) (wordsIn l x) (wordsOf rs)) ∙ f .words-are;
+          coords-long = ap length (u .coordsAre) ∙ length-sets coords (p .coords) (coordsIn l x) ∙ f .coords-long;
+          kinds-long = ap length (u .kindsAre) ∙ length-sets kinds (p .cells) (kindsIn l x) ∙ f .kinds-long;
+          ends-long = ap length (u .endsAre) ∙ length-sets ends (p .cells - 1) (endsIn l (ltb 0 (p .cells)) (p .words)) ∙ f .ends-long;
+          words-long = ap length (u .wordsAre) ∙ length-sets words (p .words) (wordsIn l x) ∙ f .words-long;
+        })
+
+  -- the end of the pass
+  pub filling-end : (coords : List Float) (kinds ends words : List ℕ) (p : Place) (at : ℕ) → Filling s coords₀ kinds₀ ends₀ words₀ coords kinds ends words p at → length s ≤ at
+      → Filled s coords₀ coords kinds₀ kinds ends₀ ends words₀ words
+  filling-end coords kinds ends words p at f end =
+      let t = records-end s at end in
+      record {
+        coordsAre = sym (ap (λ (y : List (List ℕ)). sets coords (p .coords) (coordsOf y)) t) ∙ f .coords-are;
+        kindsAre = sym (ap (λ (y : List (List ℕ)). sets kinds (p .cells) (kindsOf y)) t) ∙ f .kinds-are;
+        endsAre = sym (ap (λ (y : List (List ℕ)). sets ends (p .cells - 1) (endsOf (ltb 0 (p .cells)) (p .words) y)) t) ∙ f .ends-are;
+        wordsAre = sym (ap (λ (y : List (List ℕ)). sets words (p .words) (wordsOf y)) t) ∙ f .words-are;
+      }

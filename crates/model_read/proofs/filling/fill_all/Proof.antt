@@ -1,0 +1,95 @@
+use Prim.Native.Nat.{ℕ, _-_, _<_}
+use mathlib.Core.List.{List}
+use mathlib.Core.Path.{subst, sym}
+use native.Mathlib.Omega.{arith}
+use lib.ListN.{length}
+use borrow.Author.Needs.{needs}
+use Rattle.model_read.specs.Steps.{Room, Put}
+use Rattle.model_read.proofs.FillPass.{Filling, filling-start, filling-room, filling-step, filling-end}
+use Rattle.model_read.proofs.JudgePass.{part32}
+use Rattle.model_read.proofs.filling.fill_all.Statement.{statement}
+use Rattle.model_read.proofs.filling.fill_all.Tie as tie
+
+abbrev Inv-loop : tie.InvT-loop
+Inv-loop bytes coords₀ kinds₀ ends₀ words₀ p₀ at₀ coords kinds ends words p at = Filling bytes coords₀ kinds₀ ends₀ words₀ coords kinds ends words p at
+
+abbrev μ-loop : tie.MeasureT-loop
+μ-loop bytes coords₀ kinds₀ ends₀ words₀ p₀ at₀ coords kinds ends words p at = length bytes - at
+
+loop-holds : tie.Need-loop-holds Inv-loop μ-loop
+loop-holds c =
+    let b = c .before .before .before .before .before in
+    let a = b .args in
+    filling-start (a .bytes .now) (a .coords .now) (a .kinds .now) (a .ends .now) (a .words .now) (b .pre)
+
+add-e : tie.Need-add-e Inv-loop μ-loop
+add-e c = search needs
+
+sub-fill-record : tie.Need-sub-fill-record Inv-loop μ-loop
+sub-fill-record c = search needs
+
+part-fill-record-start : tie.Need-part-fill-record-start Inv-loop μ-loop
+part-fill-record-start c = search needs
+
+part-fill-record-end : tie.Need-part-fill-record-end Inv-loop μ-loop
+part-fill-record-end c = search needs
+
+fill-record-requires : tie.Need-fill-record-requires Inv-loop μ-loop
+fill-record-requires c κs =
+    let o = c .before .before .before .before .before .before .loop in
+    let b = c .before .before .before .before .before .before .before .before .before .before .before .before in
+    let a = b .args in
+    let lt : o .at < length (a .bytes .now) = c .before .before .before .before .before .loop-test .taken in
+    subst (λ (r : List ℕ). Room r (o .p) (length (o .coords)) (length (o .kinds)) (length (o .ends)) (length (o .words))) (sym (part32 (a .bytes .now) (o .at))) (filling-room (a .bytes .now) (a .coords .now) (a .kinds .now) (a .ends .now) (a .words .now) (b .pre) (o .coords) (o .kinds) (o .ends) (o .words) (o .p) (o .at) (o .inv) lt)
+
+loop-less : tie.Need-loop-less Inv-loop μ-loop
+loop-less c = omega (arith, c .before .before .before .before .before .before .before .before .before .before .before .before .before .before .loop-test .taken)
+
+loop-again : tie.Need-loop-again Inv-loop μ-loop
+loop-again c =
+    let o = c .before .before .before .before .before .before .before .before .before .before .before .before .before .before .before .loop in
+    let b = c .before .before .before .before .before .before .before .before .before .before .before .before .before .before .before .before .before .before .before .before .before in
+    let a = b .args in
+    let lt : o .at < length (a .bytes .now) = c .before .before .before .before .before .before .before .before .before .before .before .before .before .before .loop-test .taken in
+    let e = c .before .before .before .before .before .before .before .before .fill-record in
+    filling-step (a .bytes .now) (a .coords .now) (a .kinds .now) (a .ends .now) (a .words .now) (b .pre) (o .coords) (o .kinds) (o .ends) (o .words) (o .p) (o .at) (o .inv) lt (e .last .1 .0) (e .last .1 .1 .0) (e .last .1 .1 .1 .0) (e .last .1 .1 .1 .1 .0) (e .result)
+    (subst (λ (r : List ℕ). Put r (o .p) (e .result) (o .coords) (e .last .1 .0) (o .kinds) (e .last .1 .1 .0) (o .ends) (e .last .1 .1 .1 .0) (o .words) (e .last .1 .1 .1 .1 .0)) (part32 (a .bytes .now) (o .at)) (e .ensures))
+
+same-length : tie.Need-same-length Inv-loop μ-loop
+same-length c = c .before .loop .inv .coords-long
+
+same-length-2 : tie.Need-same-length-2 Inv-loop μ-loop
+same-length-2 c = c .before .loop .inv .kinds-long
+
+same-length-3 : tie.Need-same-length-3 Inv-loop μ-loop
+same-length-3 c = c .before .loop .inv .ends-long
+
+same-length-4 : tie.Need-same-length-4 Inv-loop μ-loop
+same-length-4 c = c .before .loop .inv .words-long
+
+returns : tie.Need-returns Inv-loop μ-loop
+returns c =
+    let o = c .before .loop in
+    let b = c .before .before .before .before .before .before .before in
+    let a = b .args in
+    filling-end (a .bytes .now) (a .coords .now) (a .kinds .now) (a .ends .now) (a .words .now) (b .pre) (o .coords) (o .kinds) (o .ends) (o .words) (o .p) (o .at) (o .inv) (c .loop-test .left)
+
+pub fill-all-spec : {M : Type 1} → statement M
+fill-all-spec =
+    tie.close
+    (tie.spec
+    Inv-loop
+    μ-loop
+    loop-holds
+    add-e
+    sub-fill-record
+    part-fill-record-start
+    part-fill-record-end
+    fill-record-requires
+    loop-less
+    loop-again
+    same-length
+    same-length-2
+    same-length-3
+    same-length-4
+    returns)

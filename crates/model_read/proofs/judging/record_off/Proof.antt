@@ -1,0 +1,93 @@
+use mathlib.Core.Path.{sym, ap, _∙_}
+use mathlib.Core.Bool.{not}
+use borrow.Author.Tests.{eq-eqb, ne-eqb, not-true, not-false}
+use borrow.Author.Needs.{needs}
+use Rattle.model_file.specs.declared.Letter.{Letter}
+use Rattle.model_file.specs.Records.{recordOff}
+use Rattle.model_read.proofs.judging.record_off.Statement.{statement}
+use Rattle.model_read.proofs.judging.record_off.Tie as tie
+
+enum-told : tie.Need-enum-told
+enum-told c = search needs
+
+all-zero-requires : tie.Need-all-zero-requires
+all-zero-requires c κs = search needs
+
+enum-told-2 : tie.Need-enum-told-2
+enum-told-2 c = search needs
+
+words-right-requires : tie.Need-words-right-requires
+words-right-requires c κs = search needs
+
+enum-told-3 : tie.Need-enum-told-3
+enum-told-3 c = search needs
+
+shared-slice-read-if1 : tie.Need-shared-slice-read-if1
+shared-slice-read-if1 c = search needs
+
+returns : tie.Need-returns
+returns c =
+    let b = c .before .before in
+    sym (ap (λ (l : Letter). recordOff l (b .before .before .before .args .r .now)) (b .enum-told3 .given .1) ∙ rw (ne-eqb _ _ (c .if1 .taken)))
+
+words-right-requires-2 : tie.Need-words-right-requires-2
+words-right-requires-2 c κs = search needs
+
+enum-told-4 : tie.Need-enum-told-4
+enum-told-4 c = search needs
+
+all-zero-requires-2 : tie.Need-all-zero-requires-2
+all-zero-requires-2 c κs = search needs
+
+returns-2 : tie.Need-returns-2
+returns-2 c =
+    let b = c .before .before in
+    sym (ap (λ (l : Letter). recordOff l (b .before .before .before .args .r .now)) (b .enum-told4 .given .1) ∙ rw (← c .before .all-zero2 .ensures, not-true (c .before .all-zero2 .result) (c .if2 .taken)))
+
+all-zero-requires-3 : tie.Need-all-zero-requires-3
+all-zero-requires-3 c κs = search needs
+
+enum-told-5 : tie.Need-enum-told-5
+enum-told-5 c = search needs
+
+returns-3 : tie.Need-returns-3
+returns-3 c = ap not (c .all-zero .ensures) ∙ sym (ap (λ (l : Letter). recordOff l (c .before .before .before .before .args .r .now)) (c .before .enum-told .given .1))
+
+returns-4 : tie.Need-returns-4
+returns-4 c = ap not (c .words-right .ensures) ∙ sym (ap (λ (l : Letter). recordOff l (c .before .before .before .before .args .r .now)) (c .before .enum-told2 .given .1))
+
+returns-5 : tie.Need-returns-5
+returns-5 c =
+    let b = c .before .before .before in
+    sym (ap (λ (l : Letter). recordOff l (b .before .before .before .args .r .now)) (b .enum-told3 .given .1) ∙ rw (eq-eqb _ _ (c .before .if1 .left)) (sym (ap not (c .words-right2 .ensures))))
+
+returns-6 : tie.Need-returns-6
+returns-6 c =
+    let b = c .before .before .before in
+    sym (ap (λ (l : Letter). recordOff l (b .before .before .before .args .r .now)) (b .enum-told4 .given .1) ∙ rw (← c .before .before .all-zero2 .ensures, not-false (c .before .before .all-zero2 .result) (c .before .if2 .left)) (sym (ap not (c .all-zero3 .ensures))))
+
+returns-7 : tie.Need-returns-7
+returns-7 c = sym (ap (λ (l : Letter). recordOff l (c .before .before .before .args .r .now)) (c .enum-told5 .given .1))
+
+pub record-off-spec : {M : Type 1} → statement M
+record-off-spec =
+    tie.close
+    (tie.spec
+    enum-told
+    all-zero-requires
+    enum-told-2
+    words-right-requires
+    enum-told-3
+    shared-slice-read-if1
+    returns
+    words-right-requires-2
+    enum-told-4
+    all-zero-requires-2
+    returns-2
+    all-zero-requires-3
+    enum-told-5
+    returns-3
+    returns-4
+    returns-5
+    returns-6
+    returns-7)

@@ -1,0 +1,52 @@
+use mathlib.Core.Path.{sym}
+use borrow.Author.Tests.{eq-eqb, ne-eqb, le-leb, lt-leb}
+use borrow.Author.Needs.{needs}
+use Rattle.model_read.proofs.judging.words_right.Statement.{statement}
+use Rattle.model_read.proofs.judging.words_right.Tie as tie
+
+shared-slice-read-n : tie.Need-shared-slice-read-n
+shared-slice-read-n c = search needs
+
+returns : tie.Need-returns
+returns c = sym (rw (lt-leb _ _ (c .if1 .taken)))
+
+returns-2 : tie.Need-returns-2
+returns-2 c = sym (simp (le-leb _ _ (c .before .if1 .left), lt-leb _ _ (c .if2 .taken)))
+
+shared-slice-read-if3 : tie.Need-shared-slice-read-if3
+shared-slice-read-if3 c = search needs
+
+returns-3 : tie.Need-returns-3
+returns-3 c = sym (simp (le-leb _ _ (c .before .before .before .if1 .left), le-leb _ _ (c .before .before .if2 .left), ne-eqb _ _ (c .if3 .taken)))
+
+size-requires : tie.Need-size-requires
+size-requires c κs = search needs
+
+mul-all-zero : tie.Need-mul-all-zero
+mul-all-zero c = search needs
+
+add-all-zero : tie.Need-add-all-zero
+add-all-zero c = search needs
+
+all-zero-requires : tie.Need-all-zero-requires
+all-zero-requires c κs = search needs
+
+returns-4 : tie.Need-returns-4
+returns-4 c =
+    let b = c .before .before .before .before in
+    sym (simp (le-leb _ _ (b .before .if1 .left), le-leb _ _ (b .if2 .left), eq-eqb _ _ (c .before .before .if3 .left), ← c .before .size .ensures .0) (sym (c .all-zero .ensures)))
+
+pub words-right-spec : {M : Type 1} → statement M
+words-right-spec =
+    tie.close
+    (tie.spec
+    shared-slice-read-n
+    returns
+    returns-2
+    shared-slice-read-if3
+    returns-3
+    size-requires
+    mul-all-zero
+    add-all-zero
+    all-zero-requires
+    returns-4)

@@ -1,0 +1,72 @@
+-- For internal contracts: how far the lists are filled, and what the passes over records need and leave.
+use Prim.Native.Nat.{ℕ, _+_, _-_, _/_, _%_, _^_, _≤_, _<_}
+use mathlib.Core.Path.{_≡_}
+use mathlib.Core.Bool.{Bool, false, _||_}
+use mathlib.Core.List.{List}
+use lib.Dec.{ltb}
+use lib.ListN.{length}
+use lib.Seq.{sets}
+use lib.Ieee.{Float}
+use Rattle.model_file.specs.Records.{letter, byte1, floatAt, capIn, coordsIn, kindsIn, wordsIn, endsIn}
+use Rattle.model_file.specs.File.{records, coordsOf, kindsOf, wordsOf, endsOf}
+use Rattle.model_file.specs.Steps.{judge}
+use Rattle.model_file.specs.declared.Letter.{Letter}
+use Rattle.model_file.specs.declared.Found.{Found}
+use Rattle.model_read.specs.declared.Place.{Place}
+use Rattle.model_read.specs.declared.Tally.{Tally}
+
+-- the place in the lists after a record
+abbrev pub after : Letter → List ℕ → Place → Place
+after l r p = record { coords = p .coords + length (coordsIn l r); cells = p .cells + length (kindsIn l r); words = p .words + length (wordsIn l r) }
+
+-- the judging pass: the refusal, and where there is none what the file holds
+pub record Judged (s : List ℕ) (t : Tally) : Type 0 where
+  pub refusal : t .refusal ≡ judge 0 (records s)
+  pub coords : t .refusal ≡ 0 → t .place .coords ≡ length (coordsOf (records s))
+  pub cells : t .refusal ≡ 0 → t .place .cells ≡ length (kindsOf (records s))
+  pub words : t .refusal ≡ 0 → t .place .words ≡ length (wordsOf (records s))
+
+-- lists of these lengths, one of them too short
+abbrev pub short : Place → ℕ → ℕ → ℕ → ℕ → Bool
+short p coords kinds ends words = ltb coords (p .coords) || ltb kinds (p .cells) || ltb ends (p .cells) || ltb words (p .words)
+
+-- room for what a record adds, in lists of these lengths
+pub record Room (r : List ℕ) (p : Place) (coords kinds ends words : ℕ) : Type 0 where
+  pub long : length r ≡ 32
+  pub little : length (wordsIn (letter r) r) ≤ 14
+  pub coordsFit : p .coords + length (coordsIn (letter r) r) ≤ coords
+  pub kindsFit : p .cells + length (kindsIn (letter r) r) ≤ kinds
+  pub endsFit : p .cells ≤ ends
+  pub wordsFit : p .words + length (wordsIn (letter r) r) ≤ words
+  pub fewCoords : p .coords < 2 ^ 40
+  pub fewCells : p .cells < 2 ^ 40
+  pub fewWords : p .words < 2 ^ 32
+
+-- what a record leaves in the lists, and the place after it
+pub record Put (r : List ℕ) (p q : Place) (coords coords' : List Float) (kinds kinds' ends ends' words words' : List ℕ) : Type 0 where
+  pub place : q ≡ after (letter r) r p
+  pub coordsAre : coords' ≡ sets coords (p .coords) (coordsIn (letter r) r)
+  pub kindsAre : kinds' ≡ sets kinds (p .cells) (kindsIn (letter r) r)
+  pub endsAre : ends' ≡ sets ends (p .cells - 1) (endsIn (letter r) (ltb 0 (p .cells)) (p .words))
+  pub wordsAre : words' ≡ sets words (p .words) (wordsIn (letter r) r)
+
+-- a file, and lists of these lengths that it fits into
+pub record Fitting (s : List ℕ) (coords kinds ends words : ℕ) : Type 0 where
+  pub whole : length s % 32 ≡ 0
+  pub short : length s ≤ 4194304
+  pub judgedWell : judge 0 (records s) ≡ 0
+  pub coordsFit : length (coordsOf (records s)) ≤ coords
+  pub kindsFit : length (kindsOf (records s)) ≤ kinds
+  pub endsFit : length (kindsOf (records s)) ≤ ends
+  pub wordsFit : length (wordsOf (records s)) ≤ words
+
+-- what the filling pass leaves in the lists
+pub record Filled (s : List ℕ) (coords coords' : List Float) (kinds kinds' ends ends' words words' : List ℕ) : Type 0 where
+  pub coordsAre : coords' ≡ sets coords 0 (coordsOf (records s))
+  pub kindsAre : kinds' ≡ sets kinds 0 (kindsOf (records s))
+  pub endsAre : ends' ≡ sets ends 0 (endsOf false 0 (records s))
+  pub wordsAre : words' ≡ sets words 0 (wordsOf (records s))
+
+-- what is answered, from the last record and the place after it
+abbrev pub foundAt : List ℕ → Place → Found
+foundAt r p = record { nodes = p .coords / 3; cells = p .cells; words = p .words; tolerance = floatAt 8 r; flags = byte1 r; cap = capIn r }

@@ -1,0 +1,164 @@
+// The filling pass: what each record adds to the lists.
+ghost use mathlib.Core.Path.{_≡_};
+ghost use Prim.Native.Nat.{_+_, _-_, _≤_, _<_, _^_};
+ghost use lib.Dec.{ltb};
+ghost use lib.ListN.{length, take, drop};
+ghost use lib.Seq.{sets};
+ghost use Rattle.laws.specs.Bytes.{number};
+ghost use Rattle.model_file.specs.Records.{widen, wordsAt, count, coordsIn, kindsIn, wordsIn, endsIn};
+ghost use Rattle.model_read.specs.Steps.{Room, Put, Fitting, Filled};
+use crate::Place;
+use crate::judging::letter_of;
+use crate::judging::place_after;
+use crate::judging::size;
+use model_file::Letter;
+
+// Two bytes as a word of the model.
+fn word_at(s: &[u8], at: usize) -> u32
+    requires { ⌜ at + 2 ≤ length (now s) ⌝ }
+    ensures { λ r. ⌜ r ≡ widen (number (take 2 (drop at (now (s .entry))))) ⌝ }
+{
+    let w = floats::le_two(s, at);
+    if w == 65535 {
+        return mesh::SEPARATOR;
+    }
+    w as u32
+}
+
+// The coordinates of an N.
+fn put_node(r: &[u8], coords: &mut [f64], at: usize)
+    requires { ⌜ (length (now r) ≡ 32) × (at + 3 ≤ length (now coords)) ⌝ }
+    ensures { λ _. ⌜ now (coords .exit) ≡ sets (now (coords .entry)) at (coordsIn Letter.Node (now (r .entry))) ⌝ }
+{
+    coords[at] = floats::le_f64(r, 8);
+    coords[at + 1] = floats::le_f64(r, 16);
+    coords[at + 2] = floats::le_f64(r, 24);
+}
+
+// What a record adds to each list.
+fn fill_coords(l: Letter, r: &[u8], coords: &mut [f64], at: usize)
+    requires { ⌜ (length (now r) ≡ 32) × (at + length (coordsIn l (now r)) ≤ length (now coords)) ⌝ }
+    ensures { λ _. ⌜ now (coords .exit) ≡ sets (now (coords .entry)) at (coordsIn l (now (r .entry))) ⌝ }
+{
+    match l {
+        Letter::Node => put_node(r, coords, at),
+        Letter::Cell => {}
+        Letter::More => {}
+        Letter::Last => {}
+        Letter::Other => {}
+    }
+}
+
+// The kind of a C.
+fn put_kind(r: &[u8], kinds: &mut [u8], at: usize)
+    requires { ⌜ (length (now r) ≡ 32) × (at + 1 ≤ length (now kinds)) ⌝ }
+    ensures { λ _. ⌜ now (kinds .exit) ≡ sets (now (kinds .entry)) at (kindsIn Letter.Cell (now (r .entry))) ⌝ }
+{
+    kinds[at] = r[1];
+}
+
+fn fill_kinds(l: Letter, r: &[u8], kinds: &mut [u8], at: usize)
+    requires { ⌜ (length (now r) ≡ 32) × (at + length (kindsIn l (now r)) ≤ length (now kinds)) ⌝ }
+    ensures { λ _. ⌜ now (kinds .exit) ≡ sets (now (kinds .entry)) at (kindsIn l (now (r .entry))) ⌝ }
+{
+    match l {
+        Letter::Node => {}
+        Letter::Cell => put_kind(r, kinds, at),
+        Letter::More => {}
+        Letter::Last => {}
+        Letter::Other => {}
+    }
+}
+
+// An open cell ends after so many words.
+fn put_end(ends: &mut [u32], cells: usize, words: usize)
+    requires { ⌜ (cells ≤ length (now ends)) × (words < 2 ^ 32) ⌝ }
+    ensures { λ _. ⌜ now (ends .exit) ≡ sets (now (ends .entry)) (cells - 1) (endsIn Letter.Cell (ltb 0 cells) words) ⌝ }
+{
+    if 0 < cells {
+        ends[cells - 1] = words as u32;
+    }
+}
+
+fn fill_ends(l: Letter, ends: &mut [u32], cells: usize, words: usize)
+    requires { ⌜ (cells ≤ length (now ends)) × (words < 2 ^ 32) ⌝ }
+    ensures { λ _. ⌜ now (ends .exit) ≡ sets (now (ends .entry)) (cells - 1) (endsIn l (ltb 0 cells) words) ⌝ }
+{
+    match l {
+        Letter::Node => {}
+        Letter::Cell => put_end(ends, cells, words),
+        Letter::More => {}
+        Letter::Last => put_end(ends, cells, words),
+        Letter::Other => {}
+    }
+}
+
+// The words of a C or K.
+fn put_words(r: &[u8], words: &mut [u32], at: usize)
+    requires { ⌜ (length (now r) ≡ 32) × (count (now r) ≤ 14) × (at + count (now r) ≤ length (now words)) ⌝ }
+    ensures { λ _. ⌜ now (words .exit) ≡ sets (now (words .entry)) at (wordsAt (count (now (r .entry))) (drop 4 (now (r .entry)))) ⌝ }
+{
+    let n = size(r[2]);
+    let mut j = 0;
+    while j < n {
+        words[at + j] = word_at(r, 4 + 2 * j);
+        j += 1;
+    }
+}
+
+fn fill_words(l: Letter, r: &[u8], words: &mut [u32], at: usize)
+    requires { ⌜ (length (now r) ≡ 32) × (length (wordsIn l (now r)) ≤ 14) × (at + length (wordsIn l (now r)) ≤ length (now words)) ⌝ }
+    ensures { λ _. ⌜ now (words .exit) ≡ sets (now (words .entry)) at (wordsIn l (now (r .entry))) ⌝ }
+{
+    match l {
+        Letter::Node => {}
+        Letter::Cell => put_words(r, words, at),
+        Letter::More => put_words(r, words, at),
+        Letter::Last => {}
+        Letter::Other => {}
+    }
+}
+
+// What a record adds to all of them.
+fn fill_record(
+    r: &[u8],
+    coords: &mut [f64],
+    kinds: &mut [u8],
+    ends: &mut [u32],
+    words: &mut [u32],
+    p: Place,
+) -> Place
+    requires { ⌜ Room (now r) p (length (now coords)) (length (now kinds)) (length (now ends)) (length (now words)) ⌝ }
+    ensures { λ q. ⌜ Put (now (r .entry)) p q (now (coords .entry)) (now (coords .exit)) (now (kinds .entry)) (now (kinds .exit)) (now (ends .entry)) (now (ends .exit)) (now (words .entry)) (now (words .exit)) ⌝ }
+{
+    let l = letter_of(r[0]);
+    fill_coords(l, r, coords, p.coords);
+    fill_kinds(l, r, kinds, p.cells);
+    fill_ends(l, ends, p.cells, p.words);
+    fill_words(l, r, words, p.words);
+    place_after(l, r, p)
+}
+
+// The filling pass.
+pub fn fill_all(
+    bytes: &[u8],
+    coords: &mut [f64],
+    kinds: &mut [u8],
+    ends: &mut [u32],
+    words: &mut [u32],
+)
+    requires { ⌜ Fitting (now bytes) (length (now coords)) (length (now kinds)) (length (now ends)) (length (now words)) ⌝ }
+    ensures { λ _. ⌜ Filled (now (bytes .entry)) (now (coords .entry)) (now (coords .exit)) (now (kinds .entry)) (now (kinds .exit)) (now (ends .entry)) (now (ends .exit)) (now (words .entry)) (now (words .exit)) ⌝ }
+{
+    let mut p = Place {
+        coords: 0,
+        cells: 0,
+        words: 0,
+    };
+    let mut at: usize = 0;
+    while at < bytes.len() {
+        let e = at + 32;
+        p = fill_record(&bytes[at..e], coords, kinds, ends, words, p);
+        at = e;
+    }
+}

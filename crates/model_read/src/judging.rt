@@ -1,0 +1,222 @@
+// The judging pass: records one by one, nothing stored.
+ghost use mathlib.Core.Path.{_≡_};
+ghost use mathlib.Core.Bool.{cond};
+ghost use Prim.Native.Nat.{_%_, _≤_, _<_, _^_};
+ghost use lib.ListN.{length};
+ghost use lib.Seq.{slice};
+ghost use Rattle.laws.specs.Bytes.{zeros};
+ghost use Rattle.model_file.specs.Records.{letterOf, letter, misplaced, stage, recordOff, wordsRight};
+ghost use Rattle.model_file.specs.Steps.{recordRefusal};
+ghost use Rattle.model_read.specs.Steps.{after, Judged};
+use crate::Place;
+use crate::Tally;
+use model_file::Letter;
+
+// What a record is, by its first byte.
+pub fn letter_of(b: u8) -> Letter
+    ensures { λ r. ⌜ r ≡ letterOf b ⌝ }
+{
+    if b == 78 {
+        return Letter::Node;
+    }
+    if b == 67 {
+        return Letter::Cell;
+    }
+    if b == 75 {
+        return Letter::More;
+    }
+    if b == 84 {
+        return Letter::Last;
+    }
+    Letter::Other
+}
+
+// Whether the bytes from a to e are zero.
+fn all_zero(s: &[u8], a: usize, e: usize) -> bool
+    requires { ⌜ (a ≤ e) × (e ≤ length (now s)) ⌝ }
+    ensures { λ r. ⌜ r ≡ zeros (slice a e (now (s .entry))) ⌝ }
+{
+    let mut i = a;
+    while i < e {
+        if s[i] != 0 {
+            return false;
+        }
+        i += 1;
+    }
+    true
+}
+
+// A byte as a count.
+pub fn size(b: u8) -> usize
+    ensures { λ r. ⌜ (r ≡ b) × (r < 256) ⌝ }
+{
+    b as usize
+}
+
+// A count from `least` on, byte 3 and the unused words zero.
+fn words_right(r: &[u8], least: u8) -> bool
+    requires { ⌜ length (now r) ≡ 32 ⌝ }
+    ensures { λ b. ⌜ b ≡ wordsRight least (now (r .entry)) ⌝ }
+{
+    let n = r[2];
+    if n < least {
+        return false;
+    }
+    if 14 < n {
+        return false;
+    }
+    if r[3] != 0 {
+        return false;
+    }
+    all_zero(r, 4 + 2 * size(n), 32)
+}
+
+// A count or zero byte is wrong.
+fn record_off(l: Letter, r: &[u8]) -> bool
+    requires { ⌜ length (now r) ≡ 32 ⌝ }
+    ensures { λ b. ⌜ b ≡ recordOff l (now (r .entry)) ⌝ }
+{
+    match l {
+        Letter::Node => !all_zero(r, 1, 8),
+        Letter::Cell => !words_right(r, 0),
+        Letter::More => {
+            if r[1] != 0 {
+                return true;
+            }
+            !words_right(r, 1)
+        }
+        Letter::Last => {
+            if !all_zero(r, 4, 8) {
+                return true;
+            }
+            !all_zero(r, 16, 32)
+        }
+        Letter::Other => false,
+    }
+}
+
+// A letter is unknown, or misplaced at a stage.
+fn letter_off(s: u8, l: Letter) -> bool
+    ensures { λ b. ⌜ b ≡ misplaced s l ⌝ }
+{
+    match l {
+        Letter::Node => s != 0,
+        Letter::Cell => !(s < 3),
+        Letter::More => s != 2,
+        Letter::Last => !(s < 3),
+        Letter::Other => true,
+    }
+}
+
+// The stage after a C or K.
+fn full(r: &[u8]) -> u8
+    requires { ⌜ length (now r) ≡ 32 ⌝ }
+    ensures { λ s. ⌜ s ≡ stage Letter.Cell (now (r .entry)) ⌝ }
+{
+    if r[2] == 14 {
+        return 2;
+    }
+    1
+}
+
+// The stage after a record.
+fn stage_after(l: Letter, r: &[u8]) -> u8
+    requires { ⌜ length (now r) ≡ 32 ⌝ }
+    ensures { λ s. ⌜ s ≡ stage l (now (r .entry)) ⌝ }
+{
+    match l {
+        Letter::Node => 0,
+        Letter::Cell => full(r),
+        Letter::More => full(r),
+        Letter::Last => 3,
+        Letter::Other => 3,
+    }
+}
+
+// The number of the first of two tests that holds, 0 for none.
+fn first_of(a: bool, n: u8, b: bool, m: u8) -> u8
+    ensures { λ r. ⌜ r ≡ cond a n (cond b m 0) ⌝ }
+{
+    if a {
+        return n;
+    }
+    if b {
+        return m;
+    }
+    0
+}
+
+// 2 before 3.
+fn refusal_of(s: u8, l: Letter, r: &[u8]) -> u8
+    requires { ⌜ (length (now r) ≡ 32) × (l ≡ letter (now r)) ⌝ }
+    ensures { λ n. ⌜ n ≡ recordRefusal s (now (r .entry)) ⌝ }
+{
+    let misplaced = letter_off(s, l);
+    let wrong = record_off(l, r);
+    first_of(misplaced, 2, wrong, 3)
+}
+
+// The place after a record.
+pub fn place_after(l: Letter, r: &[u8], p: Place) -> Place
+    requires { ⌜ (length (now r) ≡ 32) × (p .coords < 2 ^ 40) × (p .cells < 2 ^ 40) × (p .words < 2 ^ 40) ⌝ }
+    ensures { λ q. ⌜ q ≡ after l (now (r .entry)) p ⌝ }
+{
+    match l {
+        Letter::Node => Place {
+            coords: p.coords + 3,
+            cells: p.cells,
+            words: p.words,
+        },
+        Letter::Cell => Place {
+            coords: p.coords,
+            cells: p.cells + 1,
+            words: p.words + size(r[2]),
+        },
+        Letter::More => Place {
+            coords: p.coords,
+            cells: p.cells,
+            words: p.words + size(r[2]),
+        },
+        Letter::Last => p,
+        Letter::Other => p,
+    }
+}
+
+fn tally_of(n: u8, p: Place) -> Tally
+    ensures { λ t. ⌜ (t .refusal ≡ n) × (t .place ≡ p) ⌝ }
+{
+    Tally {
+        refusal: n,
+        place: p,
+    }
+}
+
+// The judging pass.
+pub fn judge_all(bytes: &[u8]) -> Tally
+    requires { ⌜ (length (now bytes) % 32 ≡ 0) × (length (now bytes) ≤ 4194304) ⌝ }
+    ensures { λ t. ⌜ Judged (now (bytes .entry)) t ⌝ }
+{
+    let mut stage: u8 = 0;
+    let mut p = Place {
+        coords: 0,
+        cells: 0,
+        words: 0,
+    };
+    let mut at: usize = 0;
+    while at < bytes.len() {
+        let e = at + 32;
+        let r = &bytes[at..e];
+        let l = letter_of(r[0]);
+        let n = refusal_of(stage, l, r);
+        if n != 0 {
+            return tally_of(n, p);
+        }
+        p = place_after(l, r, p);
+        stage = stage_after(l, r);
+        at = e;
+    }
+    if stage != 3 {
+        return tally_of(2, p);
+    }
+    tally_of(0, p)
+}

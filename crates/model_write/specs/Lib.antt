@@ -1,0 +1,2 @@
+-- Writing a model file: what its steps need.
+pub mod Steps
