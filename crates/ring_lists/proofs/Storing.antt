@@ -72,7 +72,7 @@ cleared w v f need e h b same =
     let zeros = length-replicate {A = ℕ} need 0 in
     let k : f + (need - f) ≡ need = omega arith in
     let rest : drop need v ≡ drop need w =
-        ap (λ (j : ℕ). drop j v) (sym k) ∙ sym (drop-drop (need - f) f v) ∙ ap (drop (need - f)) e ∙ drop-drop (need - f) f w ∙ ap (λ (j : ℕ). drop j w) k in
+    ap (λ (j : ℕ). drop j v) (sym k) ∙ sym (drop-drop (need - f) f v) ∙ ap (drop (need - f)) e ∙ drop-drop (need - f) f w ∙ ap (λ (j : ℕ). drop j w) k in
     sets-front v (replicate need 0) (omega arith)
     ∙ ap (λ (l : List ℕ). replicate need 0 ++ l) (ap (λ (j : ℕ). drop j v) zeros ∙ rest ∙ ap (λ (j : ℕ). drop j w) (sym zeros))
     ∙ sym (sets-front w (replicate need 0) (omega arith))

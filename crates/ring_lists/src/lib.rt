@@ -94,7 +94,16 @@ pub fn fill_ring_lists(
         return RingsAnswer::Refused(4);
     }
     store(
-        coords, kinds, ends, words, tol, checks, raw, welded, work, need,
+        coords,
+        kinds,
+        ends,
+        words,
+        tol,
+        checks,
+        raw,
+        welded,
+        work,
+        need,
     );
     RingsAnswer::Words(t.words as u32)
 }

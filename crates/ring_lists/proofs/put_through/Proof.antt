@@ -5,11 +5,9 @@ use Rattle.ring_lists.proofs.put_through.Tie as tie
 use Rattle.ring_lists.proofs.put_through.Reads as reads
 use Rattle.ring_lists.proofs.put_through.Lts as lts
 use Rattle.mesh.proofs.wide.Reads as wide-reads
-
 use Rattle.laws.proofs.Bounds.{below-at}
 use lib.Seq.{sets, take-all}
 use lib.ListN.{length, getD, take, length-set, length-map}
-
 use mathlib.Core.List.{map}
 use mathlib.Core.Path.{_≡_, refl, ap, _∙_}
 use Prim.Native.Nat.{ℕ, _+_, _-_, _≤_, _<_}
