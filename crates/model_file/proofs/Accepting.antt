@@ -1,12 +1,12 @@
 -- What acceptance, that none of 5 to 10 refuses a model, says of it as far as its file goes.
-use Prim.Native.Nat.{ℕ, _+_, _*_, _-_, _%_, _≤_}
+use Prim.Native.Nat.{ℕ, _+_, _-_, _%_, _≤_}
 use mathlib.Core.Path.{_≡_, refl, sym, _∙_}
 use mathlib.Core.Logic.{_⊎_, inl, inr, _≢_}
 use mathlib.Core.Bool.{Bool, true, false, cond, not, _&&_}
 use mathlib.Core.List.{List, [], _∷_, _++_}
 use native.Mathlib.Nat.{zero-add}
 use native.Mathlib.Omega.{arith}
-use lib.Dec.{T, leb, ltb, eqb}
+use lib.Dec.{leb, ltb, eqb}
 use lib.ListN.{length, take, drop, length-drop, take-append-drop}
 use lib.Ieee.{Float, nan, inf, fin, isNan, lt, le, eq}
 use borrow.Author.Tests.{eqb-true, eqb-false, ltb-false, leb-false, not-false}
@@ -19,7 +19,7 @@ use Rattle.floats.specs.Floats.{zero64, isFinite}
 use Rattle.geometry.specs.Coordinates.{nodeCount, toleranceOff, coordinateOff, coordinatesOff}
 use Rattle.mesh.specs.Model.{Model, Raw, PHED, cellsFrom, cellsOf}
 use Rattle.mesh.specs.Rings.{separator}
-use Rattle.mesh.specs.Acceptance.{endsOff, kindOff, countWrong, nodeOff, cellTable, cellsTable, shapeOff, modelTable, modelRefusal}
+use Rattle.mesh.specs.Acceptance.{endsOff, kindOff, countWrong, nodeOff, cellTable, cellsTable, shapeOff, modelRefusal}
 use Rattle.mesh.specs.Steps.{cellWith}
 use Rattle.mesh.proofs.CellTallies.{ends-most, nine}
 use Rattle.mesh.proofs.Accepted.{Shaped, shaped}
@@ -45,6 +45,7 @@ table-none a b h = go (tested (eqb (refusal a) 0))
 
 -- ---- floats
 
+-- what is not below a number is no NaN
 le-real : (a x : Float) → le a x ≡ true → Real x
 unfolding le lt eq isNan
 le-real nan nan e = clash e refl
@@ -53,6 +54,7 @@ le-real (fin s m k) nan e = clash e refl
 le-real a (inf s) e = tt
 le-real a (fin s m k) e = tt
 
+-- coordinates that pass are no NaN
 coords-real : (cs : List Float) → coordinatesOff cs ≡ false → All Real cs
 coords-real [] h = tt
 coords-real (x ∷ cs) h =
@@ -60,6 +62,7 @@ coords-real (x ∷ cs) h =
     let q = and-parts (le coordinateLeast x) (le x coordinateMost) (not-false (le coordinateLeast x && le x coordinateMost) (p .0)) in
     (le-real coordinateLeast x (q .0), coords-real cs (p .1))
 
+-- nor is a tolerance that passes
 tolerance-real : (t : Float) → toleranceOff t ≡ false → Real t
 tolerance-real t h = le-real zero64 t (and-parts (isFinite t) (le zero64 t) (not-false (isFinite t && le zero64 t) h) .1)
 
@@ -73,12 +76,14 @@ word-kept n k w few h = go (tested (leb n w))
     go (inl e) = inr (eqb-true w separator (and-parts (eqb k PHED) (eqb w separator) (not-false (eqb k PHED && eqb w separator) (rw e at h)) .1))
     go (inr e) = inl (omega (arith, leb-false n w e))
 
+-- words that pass
 words-kept : (n k : ℕ) (ws : List ℕ) → n ≤ 65535 → any (nodeOff n k) ws ≡ false → All Word ws
 words-kept n k [] few h = tt
 words-kept n k (w ∷ ws) few h =
     let p = or-none (nodeOff n k w) (any (nodeOff n k) ws) h in
     (word-kept n k w few (p .0), words-kept n k ws few (p .1))
 
+-- the words of a cell that passes
 cell-kept : (n before : ℕ) (c : Raw) → refusal (cellTable n before c) ≡ 0 → any (nodeOff n (c .kind)) (c .words) ≡ false
 unfolding cellTable
 cell-kept n before c h =
@@ -109,6 +114,7 @@ cells-kept n before at (k ∷ ks) (e ∷ es) ws few l a h =
 
 -- ---- a model
 
+-- what an accepted model is
 pub record Accepted (m : Model) : Type 0 where
   pub shape : Shaped m
   pub few : length (m .coords) ≤ 196605
@@ -117,6 +123,7 @@ pub record Accepted (m : Model) : Type 0 where
   pub tolerance : Real (m .tolerance)
   pub words : All Word (m .words)
 
+-- acceptance says all of it
 pub accepted : (m : Model) → modelRefusal m ≡ 0 → Accepted m
 unfolding modelRefusal cellsOf
 accepted m h =

@@ -62,26 +62,31 @@ all-last P (r ∷ q ∷ rs) h a = all-last P (q ∷ rs) (omega arith) (a .1)
 
 -- ---- every record that writing makes is whole, and there are not too many
 
+-- nodes
 pub nodes-whole : (cs : List Float) → All Whole (nodeRecords cs)
 nodes-whole [] = tt
 nodes-whole (x ∷ []) = tt
 nodes-whole (x ∷ y ∷ []) = tt
 nodes-whole (x ∷ y ∷ z ∷ cs) = (refl, nodes-whole cs)
 
+-- no more nodes than coordinates allow
 pub nodes-few : (cs : List Float) → 3 * length (nodeRecords cs) ≤ length cs
 nodes-few [] = omega arith
 nodes-few (x ∷ []) = omega arith
 nodes-few (x ∷ y ∷ []) = omega arith
 nodes-few (x ∷ y ∷ z ∷ cs) = let i = nodes-few cs in omega arith
 
+-- records that continue a cell
 pub mores-whole : (n : ℕ) (ws : List ℕ) → All Whole (moreRecords n ws)
 mores-whole zero ws = tt
 mores-whole (suc n) ws = (word-length 75 0 (take 14 ws) (omega (arith, length-take 14 ws)), mores-whole n (drop 14 ws))
 
+-- they are as many as asked for
 pub mores-count : (n : ℕ) (ws : List ℕ) → length (moreRecords n ws) ≡ n
 mores-count zero ws = refl
 mores-count (suc n) ws = ap suc (mores-count n (drop 14 ws))
 
+-- the records of cells
 pub cells-whole : (at : ℕ) (ks es ws : List ℕ) → All Whole (cells at ks es ws)
 cells-whole at [] es ws = tt
 cells-whole at (k ∷ ks) [] ws = tt
@@ -89,6 +94,7 @@ cells-whole at (k ∷ ks) (e ∷ es) ws =
     let fr = take (e - at) ws in
     (word-length 67 k (take 14 fr) (omega (arith, length-take 14 fr)), all-append Whole (moreRecords ((length fr - 1) / 14) (drop 14 fr)) (cells e ks es (drop (e - at) ws)) (mores-whole ((length fr - 1) / 14) (drop 14 fr)) (cells-whole e ks es (drop (e - at) ws)))
 
+-- they are few
 pub cells-few : (at : ℕ) (ks es ws : List ℕ) → 14 * length (cells at ks es ws) ≤ 14 * length ks + length ws
 cells-few at [] es ws = omega arith
 cells-few at (k ∷ ks) [] ws = omega arith

@@ -1,5 +1,5 @@
 -- What writing makes of what reading found in records that are not refused.
-use Prim.Native.Nat.{ℕ, zero, suc, _+_, _-_, _/_, _≤_, _<_}
+use Prim.Native.Nat.{ℕ, suc, _+_, _-_, _/_, _≤_, _<_}
 use mathlib.Core.Path.{_≡_, refl, sym, ap, ap₂, _∙_, subst}
 use mathlib.Core.Logic.{_⊎_, inl, inr}
 use mathlib.Core.List.{List, [], _∷_, _++_, append-assoc, append-nil}
@@ -10,11 +10,9 @@ use lib.ListN.{length, take, drop, length-append, drop-of-length-le}
 use lib.Seq.{take-at, drop-at, take-all}
 use lib.Dec.{eqb}
 use borrow.Author.Tests.{eqb-true, not-false}
-use Rattle.laws.specs.Lists.{onlyIf}
 use Rattle.laws.proofs.Tests.{and-parts, clash}
-use Rattle.mesh.specs.Model.{Raw}
 use Rattle.mesh.specs.Steps.{cellWith}
-use Rattle.model_file.specs.Records.{wordsAt, wordRecord, cellRecord, moreRecord, letter, byte1, count, coordsIn, kindsIn, wordsIn, endsIn, stage, misplaced, wordsRight, recordOff}
+use Rattle.model_file.specs.Records.{wordsAt, wordRecord, cellRecord, moreRecord, letter, byte1, count, coordsIn, kindsIn, wordsIn, endsIn, stage, wordsRight, recordOff}
 use Rattle.model_file.specs.Steps.{cells, judge}
 use Rattle.model_file.specs.Held.{All, Byte}
 use Rattle.model_file.specs.File.{nodeRecords, moreRecords, cellRecords, coordsOf, kindsOf, wordsOf, endsOf, opens, lastOf}
@@ -26,6 +24,7 @@ use Rattle.model_file.proofs.Layouts.{Real, marked, node-back, word-bac
 use Rattle.model_file.proofs.Judgement.{passed, after-last, none-left, word-count, stage-lt, stage-pos}
 use Rattle.model_file.proofs.Chop.{Whole}
 
+-- the last record stays the last
 last-cons : (r : List ℕ) (rs : List (List ℕ)) → 1 ≤ length rs → lastOf (r ∷ rs) ≡ lastOf rs
 last-cons r [] h = absurd (omega arith)
 last-cons r (q ∷ rs) h = refl
@@ -36,6 +35,7 @@ last-cons r (q ∷ rs) h = refl
 abbrev Cut : List ℕ → List ℕ → Type 0
 Cut ws here = (length ws ≡ 14) ⊎ (here ≡ [])
 
+-- what stands first, and what follows it
 cut-take : (ws here : List ℕ) → length ws ≤ 14 → Cut ws here → take 14 (ws ++ here) ≡ ws
 cut-take ws here h (inl e) = take-at ws here 14 e
 cut-take ws here h (inr e) = rw (e, append-nil) (take-all 14 ws h)
@@ -44,10 +44,12 @@ cut-drop : (ws here : List ℕ) → length ws ≤ 14 → Cut ws here → drop 14
 cut-drop ws here h (inl e) = drop-at ws here 14 e
 cut-drop ws here h (inr e) = rw (e, append-nil) (drop-of-length-le ws h)
 
+-- a cut by lengths
 cut-length : (ws here : List ℕ) → Cut ws here → (length ws ≡ 14) ⊎ (length here ≡ 0)
 cut-length ws here (inl e) = inl e
 cut-length ws here (inr e) = inr (ap length e)
 
+-- a cell is its C and the records of the rest
 cell-join : (k : ℕ) (ws here : List ℕ) → length ws ≤ 14 → Cut ws here → cellRecords (cellWith k (ws ++ here)) ≡ cellRecord k ws ∷ moreRecords ((length here + 13) / 14) here
 cell-join k ws here h c =
     let l = length-append ws here in
@@ -58,6 +60,7 @@ cell-join k ws here h c =
     go l (inl e) = omega arith
     go l (inr e) = omega arith
 
+-- words left are a K and the records of the rest
 more-join : (ws here : List ℕ) → 1 ≤ length ws → length ws ≤ 14 → Cut ws here → moreRecords ((length (ws ++ here) + 13) / 14) (ws ++ here) ≡ moreRecord ws ∷ moreRecords ((length here + 13) / 14) here
 more-join ws here g h c =
     let n = go (length-append ws here) (cut-length ws here c) in
@@ -69,6 +72,7 @@ more-join ws here g h c =
 
 -- ---- from within a cell on
 
+-- what is read from there on is written back
 pub record InCell (at s : ℕ) (rs : List (List ℕ)) : Type 0 where
   -- the open cell's further words, those of the cells behind it, and those cells' ends
   pub here : List ℕ
@@ -83,6 +87,7 @@ pub record InCell (at s : ℕ) (rs : List (List ℕ)) : Type 0 where
   pub last-good : recordOff Last (lastOf rs) ≡ false
   pub back : moreRecords ((length here + 13) / 14) here ++ (cells (at + length here) (kindsOf rs) ends later ++ (lastOf rs ∷ [])) ≡ rs
 
+-- the stage after a record says how its words are cut
 stage-cut : (r ws here : List ℕ) → length ws ≡ count r → (_≡_ {A = ℕ} (cond (eqb (count r) 14) 2 1) 2) ⊎ (here ≡ []) → Cut ws here
 stage-cut r ws here l (inl e) = inl (l ∙ go (eqb (count r) 14) refl e)
   where
@@ -91,6 +96,7 @@ stage-cut r ws here l (inl e) = inl (l ∙ go (eqb (count r) 14) refl e)
     go false q k = absurd (omega arith)
 stage-cut r ws here l (inr e) = inr e
 
+-- the first of the cells
 cells-cons : (at e k : ℕ) (ks es fr bk : List ℕ) → e ≡ at + length fr → cells at (k ∷ ks) (e ∷ es) (fr ++ bk) ≡ cellRecords (cellWith k fr) ++ cells e ks es bk
 cells-cons at e k ks es fr bk h =
     let n : length fr ≡ e - at = omega arith in
@@ -113,6 +119,7 @@ from-cell r rs ws at long each w e g i =
     ∙ ap (λ (a : List (List ℕ)). a ++ (lastOf rs ∷ [])) (cells-cons at end (byte1 r) (kindsOf rs) (i .ends) (ws ++ i .here) (i .later) h ∙ ap (λ (a : List (List ℕ)). a ++ rest) c)
     ∙ ap (λ (a : List (List ℕ)). r ∷ a) (append-assoc ms rest (lastOf rs ∷ []) ∙ i .back)
 
+-- what the first record adds, by its letter
 module _ (r : List ℕ) (rs : List (List ℕ)) (l : Letter) (e : letter r ≡ l) where
   pub coords-step : coordsOf (r ∷ rs) ≡ coordsIn l r ++ coordsOf rs
   coords-step = ap (λ (k : Letter). coordsIn k r ++ coordsOf rs) e
@@ -126,6 +133,7 @@ module _ (r : List ℕ) (rs : List (List ℕ)) (l : Letter) (e : letter r ≡ l)
   pub ends-step : (b : Bool) (at : ℕ) → endsOf b at (r ∷ rs) ≡ endsIn l b at ++ endsOf (opens l b) (at + length (wordsIn l r)) rs
   ends-step b at = ap (λ (k : Letter). endsIn k b at ++ endsOf (opens k b) (at + length (wordsIn k r)) rs) e
 
+-- T ends the cell
 in-last : (at s : ℕ) (r : List ℕ) (rs : List (List ℕ)) → letter r ≡ Last → recordOff Last r ≡ false → rs ≡ [] → InCell at s (r ∷ rs)
 in-last at s r [] e g n =
     record {
@@ -143,6 +151,7 @@ in-last at s r [] e g n =
     }
 in-last at s r (q ∷ rs) e g n = absurd (let z = ap length n in omega arith)
 
+-- a C ends the cell and begins the next
 in-cell : (at s : ℕ) (r : List ℕ) (rs : List (List ℕ)) → length r ≡ 32 → All Byte r → letter r ≡ Cell → recordOff Cell r ≡ false
     → InCell (at + length (wordsAt (count r) (drop 4 r))) (stage Cell r) rs → InCell at s (r ∷ rs)
 in-cell at s r rs long each e g i =
@@ -164,6 +173,7 @@ in-cell at s r rs long each e g i =
       back = (λ k. cells (add-zero at k) (kinds-step r rs Cell e k) ends later ++ (t k ∷ [])) ∙ from-cell r rs ws at long each refl e g i;
     }
 
+-- a K goes on
 in-more : (at s : ℕ) (r : List ℕ) (rs : List (List ℕ)) → length r ≡ 32 → All Byte r → letter r ≡ More → recordOff More r ≡ false → s ≡ 2
     → InCell (at + length (wordsAt (count r) (drop 4 r))) (stage More r) rs → InCell at s (r ∷ rs)
 in-more at s r rs long each e g two i =
@@ -193,6 +203,7 @@ in-more at s r rs long each e g two i =
           ∙ ap (λ (a : List (List ℕ)). r ∷ a) (i .back);
     }
 
+-- whatever follows
 pub in-cells : (rs : List (List ℕ)) (at s : ℕ) → All Whole rs → All (All Byte) rs → 1 ≤ s → s < 3 → judge s rs ≡ 0 → InCell at s rs
 in-cells [] at s w b p lt j = absurd (none-left s lt j)
 in-cells (r ∷ rs) at s w b p lt j = go (letter r) refl (λ n t q u k. in-cells rs n t (w .1) (b .1) q u k)
@@ -206,12 +217,14 @@ in-cells (r ∷ rs) at s w b p lt j = go (letter r) refl (λ n t q u k. in-cells
 
 -- ---- from the start
 
+-- what is read from the start is written back
 pub record Start (rs : List (List ℕ)) : Type 0 where
   pub some : 1 ≤ length rs
   pub last-letter : letter (lastOf rs) ≡ Last
   pub last-good : recordOff Last (lastOf rs) ≡ false
   pub back : nodeRecords (coordsOf rs) ++ (cells 0 (kindsOf rs) (endsOf false 0 rs) (wordsOf rs) ++ (lastOf rs ∷ [])) ≡ rs
 
+-- T alone
 start-last : (r : List ℕ) (rs : List (List ℕ)) → letter r ≡ Last → recordOff Last r ≡ false → rs ≡ [] → Start (r ∷ rs)
 start-last r [] e g n =
     record {
@@ -222,6 +235,7 @@ start-last r [] e g n =
     }
 start-last r (q ∷ rs) e g n = absurd (let z = ap length n in omega arith)
 
+-- the first cell
 start-cell : (r : List ℕ) (rs : List (List ℕ)) → length r ≡ 32 → All Byte r → letter r ≡ Cell → recordOff Cell r ≡ false
     → InCell (0 + length (wordsAt (count r) (drop 4 r))) (stage Cell r) rs → Start (r ∷ rs)
 start-cell r rs long each e g i =
@@ -238,6 +252,7 @@ start-cell r rs long each e g i =
           ∙ from-cell r rs ws 0 long each refl e g i;
     }
 
+-- a node
 start-node : (r : List ℕ) (rs : List (List ℕ)) → length r ≡ 32 → All Byte r → letter r ≡ Node → recordOff Node r ≡ false → All Real (coordsIn Node r) → Start rs → Start (r ∷ rs)
 start-node r rs long each e g h i =
     let t = last-cons r rs (i .some) in
@@ -250,6 +265,7 @@ start-node r rs long each e g h i =
           ∙ ap₂ (λ (a : List ℕ) (b : List (List ℕ)). a ∷ b) (node-back r long each e g h) (i .back);
     }
 
+-- whatever stands there
 pub start : (rs : List (List ℕ)) → All Whole rs → All (All Byte) rs → All Real (coordsOf rs) → judge 0 rs ≡ 0 → Start rs
 start [] w b h j = absurd (omega arith)
 start (r ∷ rs) w b h j = go (letter r) refl (λ x k. start rs (w .1) (b .1) x k)

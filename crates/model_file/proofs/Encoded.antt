@@ -38,9 +38,11 @@ pub record NodesRead (cs : List Float) (rs : List (List ℕ)) : Type 0 where
   pub ends : endsOf false 0 (nodeRecords cs ++ rs) ≡ endsOf false 0 rs
   pub judged : judge 0 (nodeRecords cs ++ rs) ≡ judge 0 rs
 
+-- three coordinates less
 three : (n : ℕ) → suc (suc (suc n)) % 3 ≡ 0 → n % 3 ≡ 0
 three n h = omega arith
 
+-- nodes are read back
 pub nodes-read : (cs : List Float) (rs : List (List ℕ)) → length cs % 3 ≡ 0 → All Fits cs → NodesRead cs rs
 nodes-read [] rs h k = record { coords = refl; kinds = refl; words = refl; ends = refl; judged = refl }
 nodes-read (x ∷ []) rs h k = absurd (omega arith)
@@ -77,9 +79,11 @@ stage-full c e = rw (eq-eqb c 14 e)
 split : (ws : List ℕ) → length ws ≡ length (take 14 ws) + length (drop 14 ws)
 split ws = sym (sym (length-append (take 14 ws) (drop 14 ws)) ∙ ap length (take-append-drop 14 ws))
 
+-- a record holds at most 14
 front-le : (ws : List ℕ) → length (take 14 ws) ≤ 14
 front-le ws = omega (arith, length-take 14 ws)
 
+-- they are read back
 pub mores-read : (n : ℕ) (ws : List ℕ) (rs : List (List ℕ)) → Holds n (length ws) → All Word ws → Follows rs → MoresRead n ws rs
 mores-read zero [] rs h k f = record { coords = refl; kinds = refl; words = refl; ends = λ at. ap (λ (m : ℕ). endsOf true m rs) (sym (add-zero at)); judged = λ s lt full. f s lt }
 mores-read zero (w ∷ ws) rs h k f = absurd (omega arith)
@@ -111,6 +115,7 @@ pub record CellRead (k : ℕ) (ws : List ℕ) (rs : List (List ℕ)) : Type 0 wh
   pub ends : (b : Bool) (at : ℕ) → endsOf b at (cellRecords (cellWith k ws) ++ rs) ≡ onlyIf b (at ∷ []) ++ endsOf true (at + length ws) rs
   pub judged : Follows (cellRecords (cellWith k ws) ++ rs)
 
+-- it is read back
 pub cell-read : (k : ℕ) (ws : List ℕ) (rs : List (List ℕ)) → All Word ws → Follows rs → CellRead k ws rs
 cell-read k ws rs h f =
     let fr = take 14 ws in
@@ -139,6 +144,7 @@ pub record CellsRead (at : ℕ) (ks es ws : List ℕ) (t : List ℕ) : Type 0 wh
   pub ends : (b : Bool) → endsOf b at (cells at ks es ws ++ (t ∷ [])) ≡ onlyIf b (at ∷ []) ++ es
   pub judged : Follows (cells at ks es ws ++ (t ∷ []))
 
+-- they are read back
 module _ (flags cap : ℕ) (tolerance : Float) where
   pub cells-read : (at : ℕ) (ks es ws : List ℕ) → length ks ≡ length es → endsOff at es (at + length ws) ≡ false → All Word ws → CellsRead at ks es ws (lastRecord flags cap tolerance)
   cells-read at [] [] [] l a h = record { coords = refl; kinds = refl; words = refl; ends = λ b. refl; judged = λ s lt. rw (lt-ltb s 3 lt) }

@@ -1,7 +1,6 @@
 -- What it says of records that their table refuses nothing.
-use Prim.Native.Nat.{ℕ, zero, suc, _≤_, _<_}
-use mathlib.Core.Path.{_≡_, refl, sym, ap, _∙_, subst}
-use mathlib.Core.Logic.{_⊎_, inl, inr}
+use Prim.Native.Nat.{ℕ, _≤_, _<_}
+use mathlib.Core.Path.{_≡_, refl, subst}
 use mathlib.Core.Bool.{Bool, true, false, cond, not}
 use mathlib.Core.List.{List, [], _∷_}
 use native.Mathlib.Omega.{arith}
@@ -31,6 +30,7 @@ passed s r rs l e h =
     let p = two-rows (misplaced s (letter r)) (recordOff (letter r) r) (judge (stage (letter r) r) rs) h in
     subst (λ (k : Letter). Passed s r rs k) e (record { place = p .0; good = p .1 .0; rest = p .1 .1 })
 
+-- after T every letter is misplaced
 misplaced-all : (l : Letter) → misplaced 3 l ≡ true
 misplaced-all Node = refl
 misplaced-all Cell = refl

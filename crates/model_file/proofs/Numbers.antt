@@ -8,8 +8,8 @@ use native.Mathlib.Omega.{arith}
 use native.Mathlib.Numerals.{add-one}
 use lib.ListN.{length, getD, take, drop, replicate}
 use lib.Seq.{slice, slice-cons, slice-empty}
-use borrow.Author.Tests.{eqb-true}
 use lib.Dec.{eqb, lit<}
+use borrow.Author.Tests.{eqb-true}
 use Rattle.laws.specs.Bytes.{number, bytes, zeros}
 use Rattle.laws.proofs.Tests.{and-parts}
 use Rattle.model_file.specs.Held.{All, Byte}
@@ -43,6 +43,7 @@ zeros-true (b ∷ l) e =
     let p = and-parts (eqb b 0) (zeros l) e in
     ap₂ (λ (x : ℕ) (t : List ℕ). x ∷ t) (eqb-true b 0 (p .0)) (zeros-true l (p .1))
 
+-- and back
 pub zeros-replicate : (n : ℕ) → zeros (replicate n 0) ≡ true
 zeros-replicate zero = refl
 zeros-replicate (suc n) = zeros-replicate n
@@ -51,6 +52,7 @@ zeros-replicate (suc n) = zeros-replicate n
 pub zeros-step : (i e : ℕ) (s : List ℕ) → i < e → e ≤ length s → zeros (slice i e s) ≡ (eqb (getD s i 0) 0 && zeros (slice (i + 1) e s))
 zeros-step i e s h k = ap zeros (slice-cons i e s 0 h k) ∙ ap (λ (j : ℕ). eqb (getD s i 0) 0 && zeros (slice j e s)) (sym (add-one i))
 
+-- no byte of a run
 pub zeros-end : (i e : ℕ) (s : List ℕ) → e ≤ i → i ≤ e → zeros (slice i e s) ≡ true
 zeros-end i e s h k = let q : i ≡ e = omega arith in rw q (ap zeros (slice-empty e s))
 

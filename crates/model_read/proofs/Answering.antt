@@ -1,6 +1,6 @@
 -- What reading answers, from what the passes find.
 use Prim.Native.Nat.{ℕ, zero, suc, _+_, _*_, _-_, _/_, _%_, _≤_, _<_}
-use mathlib.Core.Path.{_≡_, refl, sym, ap, _∙_}
+use mathlib.Core.Path.{_≡_, sym, ap, _∙_}
 use mathlib.Core.Logic.{_≢_}
 use mathlib.Core.Bool.{Bool, true, false, not, cond, _||_}
 use mathlib.Core.List.{List, [], _∷_, _++_}
@@ -16,7 +16,7 @@ use Rattle.laws.specs.Refusals.{refusal, answer, filled, refused, done}
 use Rattle.laws.proofs.Tables.{Numbered, refusal-first, refusal-second}
 use Rattle.laws.proofs.Tests.{or-none}
 use Rattle.model_file.specs.Records.{letter, floatAt, byte1, capIn, stage}
-use Rattle.model_file.specs.File.{chop, records, lastOf, coordsOf, kindsOf, wordsOf, endsOf, decode, lengthOff, recordsTable, fileTable}
+use Rattle.model_file.specs.File.{chop, records, lastOf, coordsOf, kindsOf, wordsOf, endsOf, decode, lengthOff, recordsTable}
 use Rattle.model_file.specs.Reading.{roomOff, readRefusal, foundIn, Reading}
 use Rattle.model_file.specs.Steps.{judge}
 use Rattle.model_file.specs.declared.Found.{Found}
@@ -28,12 +28,14 @@ use Rattle.model_read.proofs.FillPass.{ends-as-cells}
 
 -- ---- the last record stands at the end
 
+-- of records cut
 last-chop : (n : ℕ) (s : List ℕ) → length s ≡ 32 * suc n → lastOf (chop (suc n) s) ≡ drop (32 * n) s
 last-chop zero s h = take-all 32 s (omega arith)
 last-chop (suc n) s h =
     let e : 32 + 32 * n ≡ 32 * suc n = omega arith in
     last-chop n (drop 32 s) (length-drop 32 s ∙ omega arith) ∙ drop-drop (32 * n) 32 s ∙ ap (λ (k : ℕ). drop k s) e
 
+-- of a file
 pub last-stands : (s : List ℕ) → length s % 32 ≡ 0 → 0 < length s → lastOf (records s) ≡ drop (length s - 32) s
 last-stands s h k =
     let n : length s / 32 ≡ suc (length s / 32 - 1) = omega arith in
@@ -139,6 +141,7 @@ front-filled n xs l l' h fit w =
     w ∙ sets-eq xs l 0 (omega arith) ∙ ap (λ (k : ℕ). xs ++ drop k l) (zero-add (length xs)) ∙ sym (ap (λ (k : ℕ). filled k xs l) h)
 
 module _ (s : List ℕ) (coords : List Float) (kinds ends words : List ℕ) where
+  -- a refusal's number, and every list as it was
   pub reading-refused : (n : ℕ) → readRefusal s coords kinds ends words ≡ n → n ≢ 0 → Reading s coords coords kinds kinds ends ends words words (Refused n)
   reading-refused n h p =
       let m = readRefusal s coords kinds ends words in
@@ -150,6 +153,7 @@ module _ (s : List ℕ) (coords : List Float) (kinds ends words : List ℕ) wher
         wordsAre = unfilled m n (decode s .words) words h p;
       }
 
+  -- what is found, and every list filled
   pub reading-done : (coords' : List Float) (kinds' ends' words' : List ℕ) (f : Found) → f ≡ foundIn (decode s) → readRefusal s coords kinds ends words ≡ 0
       → Fitting s (length coords) (length kinds) (length ends) (length words) → Filled s coords coords' kinds kinds' ends ends' words words' → Reading s coords coords' kinds kinds' ends ends' words words' (Read f)
   unfolding decode

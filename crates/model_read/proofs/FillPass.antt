@@ -11,18 +11,17 @@ use lib.Dec.{ltb}
 use lib.Ieee.{Float}
 use borrow.Author.Tests.{ltb-true, ltb-false, lt-ltb}
 use Rattle.laws.specs.Lists.{onlyIf}
-use Rattle.laws.specs.Refusals.{refusal}
 use Rattle.laws.proofs.Stores.{sets-append}
 use Rattle.laws.proofs.Tests.{clash}
 use Rattle.model_file.specs.Records.{letter, count, coordsIn, kindsIn, wordsIn, endsIn, stage, misplaced, recordOff}
 use Rattle.model_file.specs.File.{records, coordsOf, kindsOf, wordsOf, endsOf, opens}
 use Rattle.model_file.specs.Steps.{judge, recordRefusal}
-use Rattle.model_read.specs.Steps.{Room, Put, Fitting, Filled}
 use Rattle.model_file.specs.declared.Letter.{Letter}
 use Rattle.model_file.specs.declared.Letter.the-variants.{Node, Cell, More, Last, Other}
-use Rattle.model_read.specs.declared.Place.{Place}
 use Rattle.model_file.proofs.Judgement.{two-rows, passed, after-last, none-left, stage-lt}
 use Rattle.model_file.proofs.Decoded.{kinds-step, ends-step}
+use Rattle.model_read.specs.Steps.{Room, Put, Fitting, Filled}
+use Rattle.model_read.specs.declared.Place.{Place}
 use Rattle.model_read.proofs.JudgePass.{Judging, judging-start, judging-step, records-step, records-end, fits, part-length, part32, little}
 
 -- ---- the ends: where the next goes, and whether a cell is open

@@ -1,5 +1,5 @@
 -- The judging pass: what holds at a place of the file, and what a record changes.
-use Prim.Native.Nat.{ℕ, zero, suc, _+_, _-_, _/_, _%_, _≤_, _<_}
+use Prim.Native.Nat.{ℕ, suc, _+_, _-_, _/_, _%_, _≤_, _<_}
 use mathlib.Core.Path.{_≡_, refl, sym, ap, _∙_}
 use mathlib.Core.Logic.{_≢_}
 use mathlib.Core.List.{List, [], _∷_, _++_}
@@ -16,12 +16,12 @@ use Rattle.laws.proofs.Tests.{and-parts}
 use Rattle.model_file.specs.Records.{letter, count, coordsIn, kindsIn, wordsIn, stage, misplaced, recordOff, wordsRight}
 use Rattle.model_file.specs.File.{chop, records, coordsOf, kindsOf, wordsOf, recordsTable}
 use Rattle.model_file.specs.Steps.{judge, recordRefusal}
-use Rattle.model_read.specs.Steps.{after}
 use Rattle.model_file.specs.declared.Letter.{Letter}
 use Rattle.model_file.specs.declared.Letter.the-variants.{Node, Cell, More, Last, Other}
-use Rattle.model_read.specs.declared.Place.{Place}
 use Rattle.model_file.proofs.Fields.{length-wordsAt}
 use Rattle.model_file.proofs.Judgement.{two-rows, word-count}
+use Rattle.model_read.specs.Steps.{after}
+use Rattle.model_read.specs.declared.Place.{Place}
 
 -- the next record, and those after it
 pub records-step : (s : List ℕ) (at : ℕ) → at + 32 ≤ length s → records (drop at s) ≡ take 32 (drop at s) ∷ records (drop (at + 32) s)
@@ -39,6 +39,7 @@ records-end s at h = rw (drop-of-length-le s h)
 pub part32 : (s : List ℕ) (at : ℕ) → take (at + 32 - at) (drop at s) ≡ take 32 (drop at s)
 part32 s at = let e : at + 32 - at ≡ 32 = omega arith in rw e
 
+-- its length
 pub part-length : (s : List ℕ) (at : ℕ) → at + 32 ≤ length s → length (take (at + 32 - at) (drop at s)) ≡ 32
 part-length s at h = ap length (part32 s at) ∙ length-take-le 32 (drop at s) (omega (arith, length-drop at s))
 
@@ -48,9 +49,11 @@ pub record Little (l : Letter) (r : List ℕ) : Type 0 where
   pub cells : length (kindsIn l r) ≤ 1
   pub words : length (wordsIn l r) ≤ 14
 
+-- few words
 little-words : (least : ℕ) (r : List ℕ) → wordsRight least r ≡ true → length (wordsIn Cell r) ≤ 14
 little-words least r g = let n = word-count least r g in let e = length-wordsAt (count r) (drop 4 r) in omega arith
 
+-- by its letter
 pub little : (l : Letter) (r : List ℕ) → recordOff l r ≡ false → Little l r
 little Node r g = record { coords = omega arith; cells = omega arith; words = omega arith }
 little Cell r g = record { coords = omega arith; cells = omega arith; words = little-words 0 r (not-false (wordsRight 0 r) g) }
@@ -79,6 +82,7 @@ pub record Judging (s : List ℕ) (st : ℕ) (p : Place) (at : ℕ) : Type 0 whe
   pub few-cells : p .cells ≤ at
   pub few-words : p .words ≤ at
 
+-- one list more
 added : {A : Type 0} (m : ℕ) (xs ys : List A) → m + length (xs ++ ys) ≡ m + length xs + length ys
 added m xs ys = omega (arith, length-append xs ys)
 

@@ -46,9 +46,11 @@ module _ (m : Model) (ok : Accepted m) where
   few-records = omega (arith, cells-few 0 (m .kinds) (m .ends) (m .words), ok .few, ok .shape .cells, ok .shape .words)
 
 module _ (m : Model) where
+  -- bytes of the nodes
   nodes-long : length (join (nodeRecords (m .coords))) ≡ 32 * (length (m .coords) / 3)
   nodes-long = length-join (nodeRecords (m .coords)) (nodes-whole (m .coords)) ∙ ap (λ (x : ℕ). 32 * x) (nodes-count (m .coords))
 
+  -- bytes of the cells
   cells-long : length (join (cells 0 (m .kinds) (m .ends) (m .words))) ≡ 32 * length (cells 0 (m .kinds) (m .ends) (m .words))
   cells-long = length-join (cells 0 (m .kinds) (m .ends) (m .words)) (cells-whole 0 (m .kinds) (m .ends) (m .words))
 
@@ -60,6 +62,7 @@ module _ (m : Model) where
       let c = cells 0 (m .kinds) (m .ends) (m .words) in
       each-append (λ (q : List ℕ). q) (nodeRecords (m .coords)) (c ++ (t ∷ [])) ∙ ap (λ (x : List ℕ). join (nodeRecords (m .coords)) ++ x) (each-append (λ (q : List ℕ). q) c (t ∷ []) ∙ ap (λ (x : List ℕ). join c ++ x) (append-nil t))
 
+  -- how many bytes
   pub encode-long : length (encode m) ≡ 32 * (length (m .coords) / 3 + length (cells 0 (m .kinds) (m .ends) (m .words)) + 1)
   encode-long =
       let t = lastRecord (m .flags) (m .cap) (m .tolerance) in

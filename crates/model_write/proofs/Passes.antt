@@ -1,10 +1,9 @@
 -- The loops of writing: nodes, a cell's further records, cells.
 use Prim.Native.Nat.{ℕ, suc, _+_, _*_, _-_, _/_, _%_, _≤_, _<_, min}
-use mathlib.Core.Path.{_≡_, refl, sym, ap, ap₂, _∙_}
+use mathlib.Core.Path.{_≡_, sym, ap, ap₂, _∙_}
 use mathlib.Core.Logic.{_⊎_, inl, inr}
 use mathlib.Core.List.{List, [], _∷_, _++_}
 use mathlib.Core.Bool.{true, false}
-use native.Mathlib.Numerals.{add-one}
 use native.Mathlib.Omega.{arith}
 use lib.ListN.{length, getD, take, drop, length-append, length-take, length-drop, drop-of-length-le}
 use lib.Seq.{sets, drop-cons, drop-drop, take-take, take-all, take-add, drop-at, length-take-le}
@@ -82,6 +81,7 @@ module _ {A : Type 0} (n : ℕ) (l : List A) where
           ∙ drop-at (take 14 l) (take (n - 14) (drop 14 l)) 14 (length-take-le 14 l (omega arith))
           ∙ ap (λ (k : ℕ). take (n - k) (drop k l)) m
 
+-- the words of one record, and the rest
 module _ (ws : List ℕ) (f n c : ℕ) (h : f + n ≤ length ws) (e : c ≡ min n 14) where
   part : n ≤ length (drop f ws)
   part = omega (arith, length-drop f ws)

@@ -9,11 +9,11 @@ use lib.ListN.{length, getD, take, drop, set, replicate}
 use lib.Seq.{sets, sets-eq, drop-cons, drop-drop}
 use lib.Ieee.{Float}
 use Rattle.laws.specs.Bytes.{bytes}
+use Rattle.laws.proofs.Stores.{sets-append, sets-all}
 use Rattle.floats.specs.Floats.{floatBytes}
 use Rattle.model_file.specs.Records.{narrow, wordBytes, nodeRecord, wordRecord, lastRecord}
 use Rattle.model_file.proofs.Fields.{length-wordBytes}
 use Rattle.model_file.proofs.Layouts.{word-length}
-use Rattle.laws.proofs.Stores.{sets-append, sets-all}
 
 -- one turn of the loop over zeros, and its end
 module _ (l : List ℕ) (i e : ℕ) where

@@ -1,6 +1,4 @@
-use Prim.Native.Nat.{_≤_, _<_, _-_}
-use mathlib.Core.Path.{_≡_}
-use lib.ListN.{length}
+use Prim.Native.Nat.{_≤_, _-_}
 use borrow.Author.Needs.{needs}
 use Rattle.model_files.proofs.cut_all.Statement.{statement}
 use Rattle.model_files.proofs.cut_all.Tie as tie

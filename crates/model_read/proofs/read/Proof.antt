@@ -1,13 +1,13 @@
+use mathlib.Core.Bool.{false}
+use mathlib.Core.Path.{_≡_, sym, _∙_}
+use native.Mathlib.Omega.{arith}
+use lib.ListN.{length}
 use borrow.Author.Needs.{needs}
+use Rattle.model_file.specs.File.{lengthOff}
+use Rattle.model_read.specs.Steps.{short, Fitting}
+use Rattle.model_read.proofs.Answering.{Whole, length-whole, last-lent, found-is, refused-length, refused-records, refused-room, refused-none, fitting, reading-refused, reading-done}
 use Rattle.model_read.proofs.read.Statement.{statement}
 use Rattle.model_read.proofs.read.Tie as tie
-use Rattle.model_read.proofs.Answering.{Whole, length-whole, last-lent, found-is, refused-length, refused-records, refused-room, refused-none, fitting, reading-refused, reading-done}
-use Rattle.model_read.specs.Steps.{short, Fitting}
-use Rattle.model_file.specs.File.{lengthOff}
-use lib.ListN.{length}
-use native.Mathlib.Omega.{arith}
-use mathlib.Core.Bool.{false}
-use mathlib.Core.Path.{_≡_, refl, sym, ap, _∙_}
 
 -- the length is right
 right-length : (c : tie.Else1) → lengthOff (length (c .before .before .before .before .before .before .before .args .bytes .now)) ≡ false

@@ -1,17 +1,17 @@
-use Rattle.model_write.proofs.count_cells.Statement.{statement}
-use Rattle.model_write.proofs.count_cells.Tie as tie
-use Rattle.model_write.proofs.Passes.{Step, cells-step, cells-end}
-use Rattle.model_file.proofs.Chop.{cells-few}
-use Rattle.model_file.specs.Steps.{cells}
-use Rattle.mesh.specs.Acceptance.{endsOff}
-use lib.ListN.{length, getD, drop}
-use borrow.Author.Needs.{needs}
-use native.Mathlib.Omega.{arith}
-use native.Mathlib.Nat.{add-zero}
+use Prim.Native.Nat.{ℕ, _+_, _-_, _/_, _≤_}
 use mathlib.Core.List.{List}
 use mathlib.Core.Bool.{false}
-use mathlib.Core.Path.{_≡_, refl, sym, ap, _∙_, subst}
-use Prim.Native.Nat.{ℕ, _+_, _-_, _/_, _≤_}
+use mathlib.Core.Path.{_≡_, sym, ap, _∙_, subst}
+use native.Mathlib.Omega.{arith}
+use native.Mathlib.Nat.{add-zero}
+use lib.ListN.{length, getD, drop}
+use borrow.Author.Needs.{needs}
+use Rattle.mesh.specs.Acceptance.{endsOff}
+use Rattle.model_file.proofs.Chop.{cells-few}
+use Rattle.model_file.specs.Steps.{cells}
+use Rattle.model_write.proofs.Passes.{Step, cells-step, cells-end}
+use Rattle.model_write.proofs.count_cells.Statement.{statement}
+use Rattle.model_write.proofs.count_cells.Tie as tie
 
 abbrev Inv-loop : tie.InvT-loop
 Inv-loop kinds ends words sum₀ from₀ i₀ sum from i =

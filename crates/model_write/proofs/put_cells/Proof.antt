@@ -1,18 +1,18 @@
-use Rattle.model_write.proofs.put_cells.Statement.{statement}
-use Rattle.model_write.proofs.put_cells.Tie as tie
-use Rattle.model_write.proofs.Passes.{Step, cells-step, cells-put, cells-end}
-use Rattle.model_file.specs.Steps.{join, cells}
-use Rattle.model_file.specs.File.{cellRecords}
-use Rattle.mesh.specs.Steps.{cellWith}
-use Rattle.mesh.specs.Acceptance.{endsOff}
-use lib.Seq.{sets, length-sets}
-use lib.ListN.{length, getD, take, drop}
-use borrow.Author.Needs.{needs}
-use native.Mathlib.Omega.{arith}
+use Prim.Native.Nat.{ℕ, _+_, _*_, _-_, _/_, _≤_}
 use mathlib.Core.List.{List}
 use mathlib.Core.Bool.{false}
 use mathlib.Core.Path.{_≡_, refl, sym, ap, _∙_, subst}
-use Prim.Native.Nat.{ℕ, _+_, _*_, _-_, _/_, _≤_}
+use native.Mathlib.Omega.{arith}
+use lib.Seq.{sets, length-sets}
+use lib.ListN.{length, getD, take, drop}
+use borrow.Author.Needs.{needs}
+use Rattle.mesh.specs.Steps.{cellWith}
+use Rattle.mesh.specs.Acceptance.{endsOff}
+use Rattle.model_file.specs.Steps.{join, cells}
+use Rattle.model_file.specs.File.{cellRecords}
+use Rattle.model_write.proofs.Passes.{Step, cells-step, cells-put, cells-end}
+use Rattle.model_write.proofs.put_cells.Statement.{statement}
+use Rattle.model_write.proofs.put_cells.Tie as tie
 
 abbrev Inv-loop : tie.InvT-loop
 Inv-loop out₀ at kinds ends words p₀ from₀ i₀ out p from i =

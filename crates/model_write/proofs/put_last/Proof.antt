@@ -1,11 +1,11 @@
+use mathlib.Core.Path.{_≡_, sym, ap, _∙_}
+use native.Mathlib.Omega.{arith}
+use lib.ListN.{length, set, length-set}
 use borrow.Author.Needs.{needs}
+use Rattle.model_file.specs.Records.{lastRecord}
+use Rattle.model_write.proofs.Putting.{last-put}
 use Rattle.model_write.proofs.put_last.Statement.{statement}
 use Rattle.model_write.proofs.put_last.Tie as tie
-use Rattle.model_write.proofs.Putting.{last-put}
-use Rattle.model_file.specs.Records.{lastRecord}
-use lib.ListN.{length, set, length-set}
-use native.Mathlib.Omega.{arith}
-use mathlib.Core.Path.{_≡_, sym, ap, _∙_}
 
 -- the stores, one behind the other, write the record
 written : (c : tie.After-slice-known5) → c .before .before .put-zeros2 .last .0 ≡ lastRecord (c .before .before .before .before .before .before .before .before .before .before .before .before .before .before .before .before .before .args .flags) (c .before .before .before .before .before .before .before .before .before .before .before .before .before .before .before .before .before .args .cap) (c .before .before .before .before .before .before .before .before .before .before .before .before .before .before .before .before .before .args .tolerance)

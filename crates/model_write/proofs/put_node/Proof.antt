@@ -1,11 +1,11 @@
+use mathlib.Core.Path.{_≡_, sym, ap, _∙_}
+use native.Mathlib.Omega.{arith}
+use lib.ListN.{length, length-set}
 use borrow.Author.Needs.{needs}
+use Rattle.model_file.specs.Records.{nodeRecord}
+use Rattle.model_write.proofs.Putting.{node-put}
 use Rattle.model_write.proofs.put_node.Statement.{statement}
 use Rattle.model_write.proofs.put_node.Tie as tie
-use Rattle.model_write.proofs.Putting.{node-put}
-use Rattle.model_file.specs.Records.{nodeRecord}
-use lib.ListN.{length, length-set}
-use native.Mathlib.Omega.{arith}
-use mathlib.Core.Path.{_≡_, sym, ap, _∙_}
 
 -- the stores, one behind the other, write the record
 written : (c : tie.After-slice-known5) → c .before .before .put-f643 .last .0 ≡ nodeRecord (c .before .before .before .before .before .before .before .before .before .before .before .before .before .before .before .before .before .args .x) (c .before .before .before .before .before .before .before .before .before .before .before .before .before .before .before .before .before .args .y) (c .before .before .before .before .before .before .before .before .before .before .before .before .before .before .before .before .before .args .z)

@@ -5,8 +5,8 @@ use native.Mathlib.Omega.{arith}
 use lib.Seq.{length-sets, sets}
 use lib.ListN.{length, take, drop}
 use borrow.Author.Needs.{needs}
-use Rattle.model_file.specs.Records.{wordBytes}
 use Rattle.laws.specs.Bytes.{bytes}
+use Rattle.model_file.specs.Records.{wordBytes}
 use Rattle.model_write.proofs.Putting.{words-none, words-more, words-done}
 use Rattle.model_write.proofs.put_words.Statement.{statement}
 use Rattle.model_write.proofs.put_words.Tie as tie

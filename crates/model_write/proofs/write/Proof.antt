@@ -1,10 +1,10 @@
+use mathlib.Core.Path.{_≡_, refl, sym, _∙_}
 use borrow.Author.Needs.{needs}
-use Rattle.model_write.proofs.write.Statement.{statement}
-use Rattle.model_write.proofs.write.Tie as tie
-use Rattle.model_write.proofs.Answering.{refused-model, writing-refused}
 use Rattle.mesh.specs.Acceptance.{modelRefusal, shapeOff}
 use Rattle.mesh.specs.Model.{Model, modelOf, cellsOf}
-use mathlib.Core.Path.{_≡_, refl, sym, _∙_}
+use Rattle.model_write.proofs.Answering.{refused-model, writing-refused}
+use Rattle.model_write.proofs.write.Statement.{statement}
+use Rattle.model_write.proofs.write.Tie as tie
 
 -- the model
 abbrev model : tie.Start → Model

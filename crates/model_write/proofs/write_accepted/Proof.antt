@@ -1,15 +1,15 @@
-use borrow.Author.Needs.{needs}
-use Rattle.model_write.proofs.write_accepted.Statement.{statement}
-use Rattle.model_write.proofs.write_accepted.Tie as tie
-use Rattle.model_write.proofs.Answering.{cells-of, few-records, encode-long, three-passes, refused-room, writing-refused, writing-done}
-use Rattle.model_file.proofs.Accepting.{Accepted, accepted}
-use Rattle.model_file.specs.Records.{lastRecord}
-use Rattle.mesh.specs.Model.{Model, modelOf}
+use Prim.Native.Nat.{ℕ, _+_, _*_, _/_}
+use mathlib.Core.Path.{sym, ap, _∙_}
+use native.Mathlib.Omega.{arith}
 use lib.Seq.{sets}
 use lib.ListN.{length}
-use native.Mathlib.Omega.{arith}
-use mathlib.Core.Path.{_≡_, refl, sym, ap, _∙_}
-use Prim.Native.Nat.{ℕ, _+_, _*_, _/_}
+use borrow.Author.Needs.{needs}
+use Rattle.mesh.specs.Model.{Model, modelOf}
+use Rattle.model_file.proofs.Accepting.{Accepted, accepted}
+use Rattle.model_file.specs.Records.{lastRecord}
+use Rattle.model_write.proofs.Answering.{cells-of, few-records, encode-long, three-passes, refused-room, writing-refused, writing-done}
+use Rattle.model_write.proofs.write_accepted.Statement.{statement}
+use Rattle.model_write.proofs.write_accepted.Tie as tie
 
 -- the model
 abbrev model : tie.Start → Model

@@ -4,7 +4,7 @@ use lib.Dec.{ltb}
 use lib.Seq.{sets}
 use borrow.Author.Needs.{needs}
 use Rattle.model_file.specs.declared.Letter.{Letter}
-use Rattle.model_file.specs.Records.{endsIn, wordsAt}
+use Rattle.model_file.specs.Records.{endsIn}
 use Rattle.model_read.proofs.filling.fill_ends.Statement.{statement}
 use Rattle.model_read.proofs.filling.fill_ends.Tie as tie
 

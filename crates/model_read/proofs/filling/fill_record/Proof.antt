@@ -5,9 +5,9 @@ use lib.Dec.{ltb}
 use lib.ListN.{length}
 use lib.Seq.{sets}
 use borrow.Author.Needs.{needs}
-use Rattle.model_read.specs.Steps.{after}
 use Rattle.model_file.specs.declared.Letter.{Letter}
 use Rattle.model_file.specs.Records.{coordsIn, kindsIn, wordsIn, endsIn}
+use Rattle.model_read.specs.Steps.{after}
 use Rattle.model_read.proofs.filling.fill_record.Statement.{statement}
 use Rattle.model_read.proofs.filling.fill_record.Tie as tie
 

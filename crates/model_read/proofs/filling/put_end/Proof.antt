@@ -5,7 +5,7 @@ use lib.Seq.{sets}
 use borrow.Author.Tests.{lt-ltb, le-ltb}
 use borrow.Author.Needs.{needs}
 use Rattle.model_file.specs.declared.Letter.the-variants.{Cell}
-use Rattle.model_file.specs.Records.{endsIn, wordsAt}
+use Rattle.model_file.specs.Records.{endsIn}
 use Rattle.model_read.proofs.filling.put_end.Statement.{statement}
 use Rattle.model_read.proofs.filling.put_end.Tie as tie
 

@@ -1,14 +1,14 @@
 use Prim.Native.Nat.{ℕ}
-use borrow.Author.Needs.{needs}
-use Rattle.model_read.proofs.filling.word_at.Statement.{statement}
-use Rattle.model_read.proofs.filling.word_at.Tie as tie
-use Rattle.model_read.proofs.WordStores.{two-bytes}
-use Rattle.mesh.specs.Rings.{separator}
-use Rattle.laws.specs.Bytes.{number}
-use lib.ListN.{take, drop}
-use borrow.Author.Tests.{eq-eqb, ne-eqb}
 use mathlib.Core.Path.{_≡_, sym, ap, _∙_}
 use mathlib.Core.Bool.{Bool, cond}
+use lib.ListN.{take, drop}
+use borrow.Author.Needs.{needs}
+use borrow.Author.Tests.{eq-eqb, ne-eqb}
+use Rattle.laws.specs.Bytes.{number}
+use Rattle.mesh.specs.Rings.{separator}
+use Rattle.model_read.proofs.WordStores.{two-bytes}
+use Rattle.model_read.proofs.filling.word_at.Statement.{statement}
+use Rattle.model_read.proofs.filling.word_at.Tie as tie
 
 -- the number of the two bytes
 abbrev read : tie.After-le-two → ℕ

@@ -6,9 +6,9 @@ use lib.ListN.{length, take, drop}
 use borrow.Author.Tests.{eqb-false}
 use borrow.Author.Needs.{needs}
 use Rattle.model_file.specs.declared.Letter.{Letter}
-use Rattle.model_read.specs.Steps.{after}
 use Rattle.model_file.specs.Records.{letter, stage}
 use Rattle.model_file.specs.Steps.{recordRefusal}
+use Rattle.model_read.specs.Steps.{after}
 use Rattle.model_read.specs.declared.Place.{Place}
 use Rattle.model_read.proofs.JudgePass.{part32, part-length, fits, Judging, judging-start, judging-step, refused-here, missing-last, judged-well, all-coords, all-cells, all-words}
 use Rattle.model_read.proofs.judging.judge_all.Statement.{statement}

@@ -5,8 +5,8 @@ use lib.ListN.{drop}
 use borrow.Author.Needs.{needs}
 use Rattle.model_file.specs.declared.Letter.{Letter}
 use Rattle.model_file.specs.Records.{count}
-use Rattle.model_read.specs.Steps.{after}
 use Rattle.model_file.proofs.Fields.{length-wordsAt}
+use Rattle.model_read.specs.Steps.{after}
 use Rattle.model_read.proofs.judging.place_after.Statement.{statement}
 use Rattle.model_read.proofs.judging.place_after.Tie as tie
 

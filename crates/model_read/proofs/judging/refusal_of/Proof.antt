@@ -1,10 +1,10 @@
+use mathlib.Core.Bool.{Bool, cond}
+use mathlib.Core.Path.{ap, ap₂, _∙_}
 use borrow.Author.Needs.{needs}
-use Rattle.model_read.proofs.judging.refusal_of.Statement.{statement}
-use Rattle.model_read.proofs.judging.refusal_of.Tie as tie
 use Rattle.model_file.specs.declared.Letter.{Letter}
 use Rattle.model_file.specs.Records.{misplaced, recordOff}
-use mathlib.Core.Bool.{Bool, cond}
-use mathlib.Core.Path.{sym, ap, ap₂, _∙_}
+use Rattle.model_read.proofs.judging.refusal_of.Statement.{statement}
+use Rattle.model_read.proofs.judging.refusal_of.Tie as tie
 
 letter-off-requires : tie.Need-letter-off-requires
 letter-off-requires c κs = search needs
