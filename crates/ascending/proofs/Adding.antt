@@ -21,7 +21,7 @@ use Rattle.sorting.proofs.Inserting.{seat-le}
 pub dropped : (l : List ℕ) (i : ℕ) → i < length l → drop i l ≡ getD l i 0 ∷ drop (i + 1) l
 dropped l i h = drop-cons l i 0 h ∙ ap (λ (k : ℕ). getD l i 0 ∷ drop k l) (sym (add-one i))
 
-getD-in : (l : List ℕ) (j : ℕ) → j < length l → elem (getD l j 0) l ≡ true
+pub getD-in : (l : List ℕ) (j : ℕ) → j < length l → elem (getD l j 0) l ≡ true
 getD-in [] j h = absurd (omega arith)
 getD-in (x ∷ l) zero h = rw (eqb-self x)
 getD-in (x ∷ l) (suc j) h = go (eqb (getD l j 0) x) (getD-in l j (omega arith))

@@ -38,7 +38,7 @@ module _ (p : Places) (t : List ℕ) (laid : Laid p t) where
   abbrev f : ℕ → List ℕ
   f = facesWith p t
 
-  list-long : (n : ℕ) → length (f n) ≡ times n S
+  pub list-long : (n : ℕ) → length (f n) ≡ times n S
   list-long n = ap length (sym (picked-all p t laid n)) ∙ pick-long n (entriesTo p t (p .faces)) ∙ ap (times n) (entries-all p t laid)
 
   lists-long : (n : ℕ) → length (each f (upFrom 0 n)) ≡ below n S
