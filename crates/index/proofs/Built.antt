@@ -101,7 +101,7 @@ module _ (p : Places) (w : List ℕ) (laid : Laid p (input p w)) (room : Room p 
   pub same-input : input p v ≡ t₀
   same-input = take-before o w o ys (omega arith)
 
-  input-is : input p (base p v) ≡ t₀
+  pub input-is : input p (base p v) ≡ t₀
   input-is = take-take o (p .found) v below-found ∙ same-input
 
   offset-there : (n : ℕ) → n < p .nodes + 2 → getD (base p v) (o + n) 0 ≡ below n (wordsOf p t₀)
