@@ -1,0 +1,2 @@
+-- Counts and sums.
+pub mod Counts

@@ -1,0 +1,4 @@
+-- Laws that belong to no one function.
+pub mod Sums
+pub mod Again
+pub mod Example

@@ -1,0 +1,3 @@
+-- Which way candidates are sought, and a slice with its index.
+pub mod Tables
+pub mod Work

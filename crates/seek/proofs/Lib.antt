@@ -1,0 +1,6 @@
+-- Laws that belong to no one function.
+
+pub mod Condition
+pub mod Read
+pub mod Searching
+pub mod Merging

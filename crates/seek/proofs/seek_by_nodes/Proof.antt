@@ -1,0 +1,78 @@
+-- `seek::seek_by_nodes` meets its contract. The runs as `open_runs` leaves them are those that `merge_runs` asks (`opened`).
+use Rattle.seek.specs.Steps.{Runs}
+use Rattle.seek.proofs.Searching.{none-sought}
+use Rattle.seek.proofs.Merging.{opened}
+use Rattle.index.specs.Faces.{input, base, nodesOf, wordsOf}
+use Rattle.counting.specs.Counts.{below}
+use lib.Seq.{sets, length-take-le}
+use lib.ListN.{length, replicate}
+use native.Mathlib.Omega.{arith}
+use Prim.Native.Nat.{ℕ, _+_}
+use mathlib.Core.List.{List, map}
+use mathlib.Core.Path.{refl, sym, _∙_, subst}
+use borrow.Author.Needs.{needs}
+use Rattle.seek.proofs.seek_by_nodes.Statement.{statement}
+use Rattle.seek.proofs.seek_by_nodes.Tie as tie
+
+slice-reshare-prefix-bow-at : tie.Need-slice-reshare-prefix-bow-at
+slice-reshare-prefix-bow-at c = search needs
+
+slice-aggregate-bow-at : tie.Need-slice-aggregate-bow-at
+slice-aggregate-bow-at c = let a = c .before .before .args in sym (length-take-le (a .at .found) (a .work .now) (omega (arith, c .before .before .pre .room)))
+
+bow-at-requires : tie.Need-bow-at-requires
+bow-at-requires c κs = search needs
+
+same-length : tie.Need-same-length
+same-length c = search needs
+
+returns : tie.Need-returns
+returns c = let a = c .before .before .before .before .args in none-sought (a .at) (a .lo) (a .work .now) (c .before .before .before .before .pre) (sym (c .before .bow-at .ensures) ∙ c .if1 .taken)
+
+slice-reshare-prefix-open-runs : tie.Need-slice-reshare-prefix-open-runs
+slice-reshare-prefix-open-runs c = search needs
+
+slice-aggregate-open-runs : tie.Need-slice-aggregate-open-runs
+slice-aggregate-open-runs c = let a = c .before .before .before .before .before .args in sym (length-take-le (a .at .found) (a .work .now) (omega (arith, c .before .before .before .before .before .pre .room)))
+
+open-runs-requires : tie.Need-open-runs-requires
+open-runs-requires c κs = search needs
+
+merge-runs-requires : tie.Need-merge-runs-requires
+merge-runs-requires c κs =
+    let a = c .before .before .before .before .before .before .before .before .before .before .before .args in
+    let ready = c .before .before .before .before .before .before .before .before .before .before .before .pre in
+    let p = a .at in
+    let b = base p (a .work .now) in
+    let ns = nodesOf p (input p b) (a .lo) in
+    let e = c .before .before .before .open-runs .ensures in
+    let zs : List ℕ = replicate 64 0 in
+    let F = sets zs 0 (map (λ n. p .index + below n (wordsOf p (input p b))) ns) in (
+      ready,
+      subst (λ (k : ℕ). Runs p b (a .lo) k 0 (c .before .before .before .open-runs .last .1 .1 .1 .0) (c .before .before .before .open-runs .last .1 .1 .1 .1 .0)) (sym (e .0))
+          (subst (λ (l : List ℕ). Runs p b (a .lo) (length ns) 0 l (c .before .before .before .open-runs .last .1 .1 .1 .1 .0)) (sym (e .1 .0))
+          (subst (λ (l : List ℕ). Runs p b (a .lo) (length ns) 0 F l) (sym (e .1 .1))
+          (opened p b (a .lo) (ready .indexed) (ready .face) zs zs refl refl))),
+    )
+
+same-length-2 : tie.Need-same-length-2
+same-length-2 c = search needs
+
+returns-2 : tie.Need-returns-2
+returns-2 c = search needs
+
+pub seek-by-nodes-spec : {M : Type 1} → statement M
+seek-by-nodes-spec =
+    tie.close
+    (tie.spec
+    slice-reshare-prefix-bow-at
+    slice-aggregate-bow-at
+    bow-at-requires
+    same-length
+    returns
+    slice-reshare-prefix-open-runs
+    slice-aggregate-open-runs
+    open-runs-requires
+    merge-runs-requires
+    same-length-2
+    returns-2)

@@ -1,0 +1,126 @@
+-- `triples::by_node` meets its contract. A loop of Turns: the pieces are the hits of each second node with those behind it.
+use mathlib.Core.Path.{refl, ap, ap₂, _∙_, subst}
+use mathlib.Core.List.{List}
+use Prim.Native.Nat.{ℕ, _+_, _-_, _≤_}
+use native.Mathlib.Omega.{arith}
+use borrow.Author.Needs.{needs}
+use lib.ListN.{getD}
+use Rattle.triples.proofs.by_node.Statement.{statement}
+use Rattle.triples.proofs.by_node.Tie as tie
+use Rattle.triples.proofs.Adds.{Prog}
+use Rattle.triples.specs.Hits.{hits3, hits2, Added}
+use Rattle.merge.specs.Runs.{rest}
+use Rattle.index.specs.Faces.{input, base}
+use Rattle.index.specs.declared.Places.{Places}
+use Rattle.laws.specs.Lists.{each}
+use Rattle.triples.proofs.Turns.{held-start, held-open, held-base, held-input, held-length, held-read, held-span, held-next, held-end, faces-node}
+
+abbrev G : Places → List ℕ → (lo a : ℕ) → List ℕ → List ℕ
+G p w lo a l = hits2 p (input p w) lo a l
+
+abbrev F : Places → List ℕ → (lo a : ℕ) → ℕ → List ℕ → List ℕ
+F p w lo a b l = each (hits3 p (input p w) lo a b) l
+
+abbrev Inv-loop : tie.InvT-loop
+Inv-loop work₀ at lo a n s e n₀ i₀ work n' i = (s ≤ i) × Prog at n work₀ (G at work₀ lo a (rest s e (base at work₀))) (G at work₀ lo a (rest i e (base at work₀))) n' work
+
+abbrev μ-loop : tie.MeasureT-loop
+μ-loop work₀ at lo a n s e n₀ i₀ work n' i = e - i
+
+loop-holds : tie.Need-loop-holds Inv-loop μ-loop
+loop-holds c =
+    let a = c .before .args in
+    let op = c .before .pre .0 in
+    let within = c .before .pre .1 .0 .within in
+    let w = a .work .now in
+    (omega arith, held-start (a .at) (a .lo) (a .n) w op (a .s) (a .e) within (G (a .at) w (a .lo) (a .a)) (F (a .at) w (a .lo) (a .a)) refl (λ x l. refl) (faces-node (a .at) (input (a .at) w) (a .lo) (a .a) (rest (a .s) (a .e) (base (a .at) w))))
+
+mul-b : tie.Need-mul-b Inv-loop μ-loop
+mul-b c =
+    let a = c .before .before .before .args in
+    let op = c .before .before .before .pre .0 in
+    let within = c .before .before .before .pre .1 .0 .within in
+    let w = a .work .now in
+    omega (arith, within, op .ready .room, c .before .before .before .good .0, c .loop-test .taken)
+
+slice-read-b : tie.Need-slice-read-b Inv-loop μ-loop
+slice-read-b c =
+    let a = c .before .before .before .before .args in
+    let op = c .before .before .before .before .pre .0 in
+    let within = c .before .before .before .before .pre .1 .0 .within in
+    let w = a .work .now in
+    let l = c .before .before .loop in
+    omega (arith, within, op .ready .room, c .before .loop-test .taken, held-length (a .at) (a .lo) (a .n) w op (a .s) (a .e) within (G (a .at) w (a .lo) (a .a)) (F (a .at) w (a .lo) (a .a)) refl (λ x l. refl) (faces-node (a .at) (input (a .at) w) (a .lo) (a .a) (rest (a .s) (a .e) (base (a .at) w))) (l .i) (l .n) (l .work) (l .inv .1))
+
+add-by-pair : tie.Need-add-by-pair Inv-loop μ-loop
+add-by-pair c = search needs
+
+by-pair-requires : tie.Need-by-pair-requires Inv-loop μ-loop
+by-pair-requires c κs =
+    let a = c .before .before .before .before .before .args in
+    let op = c .before .before .before .before .before .pre .0 in
+    let within = c .before .before .before .before .before .pre .1 .0 .within in
+    let w = a .work .now in
+    let l = c .before .before .before .loop in
+    let k = c .before .before .loop-test .taken in
+    let op′ = held-open (a .at) (a .lo) (a .n) w op (a .s) (a .e) within (G (a .at) w (a .lo) (a .a)) (F (a .at) w (a .lo) (a .a)) refl (λ x l. refl) (faces-node (a .at) (input (a .at) w) (a .lo) (a .a) (rest (a .s) (a .e) (base (a .at) w))) (l .i) (l .n) (l .work) (l .inv .1) in
+    let read = held-read (a .at) (a .lo) (a .n) w op (a .s) (a .e) within (G (a .at) w (a .lo) (a .a)) (F (a .at) w (a .lo) (a .a)) refl (λ x l. refl) (faces-node (a .at) (input (a .at) w) (a .lo) (a .a) (rest (a .s) (a .e) (base (a .at) w))) (l .i) (l .n) (l .work) (l .inv .1) k in
+    (op′, (held-span (a .at) (a .lo) (a .n) w op (a .s) (a .e) within (G (a .at) w (a .lo) (a .a)) (F (a .at) w (a .lo) (a .a)) refl (λ x l. refl) (faces-node (a .at) (input (a .at) w) (a .lo) (a .a) (rest (a .s) (a .e) (base (a .at) w))) (l .i) (l .n) (l .work) (l .inv .1) (l .i + 1) (omega (arith, l .inv .0)) (c .before .before .before .before .before .pre .1 .0), (c .before .before .before .before .before .pre .1 .1, omega (arith, read, c .before .before .before .before .before .pre .1 .0 .known (l .i) (l .inv .0) k))))
+
+add-i : tie.Need-add-i Inv-loop μ-loop
+add-i c = search needs
+
+loop-less : tie.Need-loop-less Inv-loop μ-loop
+loop-less c = search needs
+
+loop-again : tie.Need-loop-again Inv-loop μ-loop
+loop-again c =
+    let a = c .before .before .before .before .before .before .before .before .args in
+    let op = c .before .before .before .before .before .before .before .before .pre .0 in
+    let within = c .before .before .before .before .before .before .before .before .pre .1 .0 .within in
+    let w = a .work .now in
+    let l = c .before .before .before .before .before .before .loop in
+    let k = c .before .before .before .before .before .loop-test .taken in
+    let b = held-base (a .at) (a .lo) (a .n) w op (a .s) (a .e) within (G (a .at) w (a .lo) (a .a)) (F (a .at) w (a .lo) (a .a)) refl (λ x l. refl) (faces-node (a .at) (input (a .at) w) (a .lo) (a .a) (rest (a .s) (a .e) (base (a .at) w))) (l .i) (l .n) (l .work) (l .inv .1) in
+    let t = held-input (a .at) (a .lo) (a .n) w op (a .s) (a .e) within (G (a .at) w (a .lo) (a .a)) (F (a .at) w (a .lo) (a .a)) refl (λ x l. refl) (faces-node (a .at) (input (a .at) w) (a .lo) (a .a) (rest (a .s) (a .e) (base (a .at) w))) (l .i) (l .n) (l .work) (l .inv .1) in
+    let read = held-read (a .at) (a .lo) (a .n) w op (a .s) (a .e) within (G (a .at) w (a .lo) (a .a)) (F (a .at) w (a .lo) (a .a)) refl (λ x l. refl) (faces-node (a .at) (input (a .at) w) (a .lo) (a .a) (rest (a .s) (a .e) (base (a .at) w))) (l .i) (l .n) (l .work) (l .inv .1) k in
+    let f = c .before .before .by-pair in (
+      omega arith,
+      held-next (a .at) (a .lo) (a .n) w op (a .s) (a .e) within (G (a .at) w (a .lo) (a .a)) (F (a .at) w (a .lo) (a .a)) refl (λ x l. refl) (faces-node (a .at) (input (a .at) w) (a .lo) (a .a) (rest (a .s) (a .e) (base (a .at) w))) (l .i) (l .n) (l .work) (l .inv .1) k (f .result) (f .last .0)
+          (subst (λ (x : List ℕ). Added (a .at) x (l .n) (l .work) (f .result) (f .last .0)) (ap₂ (λ (x : List ℕ) (v : ℕ). each (hits3 (a .at) x (a .lo) (a .a) v) (rest (l .i + 1) (a .e) (base (a .at) (l .work)))) t read ∙ ap (λ (x : List ℕ). each (hits3 (a .at) (input (a .at) w) (a .lo) (a .a) (getD (base (a .at) w) (l .i) 0)) (rest (l .i + 1) (a .e) x)) b) (f .ensures)),
+    )
+
+same-length : tie.Need-same-length Inv-loop μ-loop
+same-length c =
+    let a = c .before .before .before .args in
+    let op = c .before .before .before .pre .0 in
+    let within = c .before .before .before .pre .1 .0 .within in
+    let w = a .work .now in
+    let l = c .before .loop in
+    held-length (a .at) (a .lo) (a .n) w op (a .s) (a .e) within (G (a .at) w (a .lo) (a .a)) (F (a .at) w (a .lo) (a .a)) refl (λ x l. refl) (faces-node (a .at) (input (a .at) w) (a .lo) (a .a) (rest (a .s) (a .e) (base (a .at) w))) (l .i) (l .n) (l .work) (l .inv .1)
+
+returns : tie.Need-returns Inv-loop μ-loop
+returns c =
+    let a = c .before .before .before .args in
+    let op = c .before .before .before .pre .0 in
+    let within = c .before .before .before .pre .1 .0 .within in
+    let w = a .work .now in
+    let l = c .before .loop in
+    held-end (a .at) (a .lo) (a .n) w op (a .s) (a .e) within (G (a .at) w (a .lo) (a .a)) (F (a .at) w (a .lo) (a .a)) refl (λ x l. refl) (faces-node (a .at) (input (a .at) w) (a .lo) (a .a) (rest (a .s) (a .e) (base (a .at) w))) (l .i) (l .n) (l .work) (l .inv .1) (c .loop-test .left)
+
+pub by-node-spec : {M : Type 1} → statement M
+by-node-spec =
+    tie.close
+    (tie.spec
+    Inv-loop
+    μ-loop
+    loop-holds
+    mul-b
+    slice-read-b
+    add-by-pair
+    by-pair-requires
+    add-i
+    loop-less
+    loop-again
+    same-length
+    returns)

@@ -1,0 +1,83 @@
+-- `triples::consider` meets its contract. A hit is inserted, and there is room for it, since the list stays ascending and below the number of faces.
+use mathlib.Core.Path.{_≡_, sym, ap, _∙_, subst}
+use mathlib.Core.List.{List, [], _∷_}
+use Prim.Native.Nat.{ℕ, _+_, _≤_, _<_}
+use native.Mathlib.Omega.{arith}
+use borrow.Author.Needs.{needs}
+use lib.ListN.{length}
+use lib.Seq.{sets, length-take-le}
+use Rattle.triples.proofs.consider.Statement.{statement}
+use Rattle.triples.proofs.consider.Tie as tie
+use Rattle.triples.proofs.Adds.{Faces, sum-few, added-none}
+use Rattle.triples.specs.Hits.{hit, listed}
+use Rattle.seek.proofs.Searching.{input-base}
+use Rattle.index.specs.Faces.{input}
+use Rattle.index.specs.declared.Places.{Places}
+use borrow.Author.Tests.{eqb-true}
+use Rattle.laws.specs.Lists.{add}
+use lib.Dec.{leb, eqb}
+use mathlib.Core.Bool.{true, false, or-false}
+
+only : (p : Places) (g : ℕ) → g < p .faces → Faces p (g ∷ [])
+only p g h x e = let s : x ≡ g = eqb-true x g (sym (or-false (eqb x g)) ∙ e) in omega arith
+
+slice-reshare-prefix-is-hit : tie.Need-slice-reshare-prefix-is-hit
+slice-reshare-prefix-is-hit c = search needs
+
+slice-aggregate-is-hit : tie.Need-slice-aggregate-is-hit
+slice-aggregate-is-hit c = let a = c .before .before .args in sym (length-take-le (a .at .found) (a .work .now) (omega (arith, c .before .before .pre .0 .ready .room)))
+
+is-hit-requires : tie.Need-is-hit-requires
+is-hit-requires c κs = let q = c .before .before .pre in (q .0 .ready .indexed, (q .0 .ready .face, q .1))
+
+narrow-requires : tie.Need-narrow-requires
+narrow-requires c κs = omega (arith, c .before .before .before .before .pre .0 .ready .indexed .small .1, c .before .before .before .before .pre .1)
+
+insert-requires : tie.Need-insert-requires
+insert-requires c κs =
+    let a = c .before .before .before .before .before .before .args in
+    let op = c .before .before .before .before .before .before .pre .0 in (
+      omega (arith, op .few, op .ready .room),
+      subst (λ (v : ℕ). a .at .found + length (add leb v (listed (a .at) (a .n) (a .work .now))) ≤ length (a .work .now)) (sym (c .before .narrow .ensures))
+          (omega (arith, sum-few (a .at) (a .lo) (a .n) (a .work .now) op (a .g ∷ []) (only (a .at) (a .g) (c .before .before .before .before .before .before .pre .1)), op .ready .room)),
+      op .asc,
+    )
+
+same-length : tie.Need-same-length
+same-length c = search needs
+
+returns : tie.Need-returns
+returns c =
+    let a = c .before .before .before .before .before .before .before .before .before .args in
+    let op = c .before .before .before .before .before .before .before .before .before .pre .0 in
+    let w = a .work .now in
+    let t : hit (a .at) (input (a .at) w) (a .lo) (a .a) (a .b) (a .c) (a .g) ≡ true =
+    ap (λ (l : List ℕ). hit (a .at) l (a .lo) (a .a) (a .b) (a .c) (a .g)) (sym (input-base (a .at) w (op .ready .below))) ∙ sym (c .before .before .before .before .before .before .is-hit .ensures) ∙ c .before .before .before .before .before .if1 .taken in
+    let e : add leb (c .before .before .before .before .narrow .result) (listed (a .at) (a .n) w) ≡ add leb (a .g) (listed (a .at) (a .n) w) = ap (λ (v : ℕ). add leb v (listed (a .at) (a .n) w)) (c .before .before .before .before .narrow .ensures) in
+    rw t (record { number = c .before .before .insert .ensures .0 ∙ ap length e; filled = c .before .before .insert .ensures .1 ∙ ap (sets w (a .at .found)) e })
+
+same-length-2 : tie.Need-same-length-2
+same-length-2 c = search needs
+
+returns-2 : tie.Need-returns-2
+returns-2 c =
+    let a = c .before .before .before .before .args in
+    let op = c .before .before .before .before .pre .0 in
+    let w = a .work .now in
+    let t : hit (a .at) (input (a .at) w) (a .lo) (a .a) (a .b) (a .c) (a .g) ≡ false =
+    ap (λ (l : List ℕ). hit (a .at) l (a .lo) (a .a) (a .b) (a .c) (a .g)) (sym (input-base (a .at) w (op .ready .below))) ∙ sym (c .before .is-hit .ensures) ∙ c .if1 .left in
+    rw t (added-none (a .at) (a .lo) (a .n) w op)
+
+pub consider-spec : {M : Type 1} → statement M
+consider-spec =
+    tie.close
+    (tie.spec
+    slice-reshare-prefix-is-hit
+    slice-aggregate-is-hit
+    is-hit-requires
+    narrow-requires
+    insert-requires
+    same-length
+    returns
+    same-length-2
+    returns-2)
