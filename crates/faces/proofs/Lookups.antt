@@ -33,7 +33,7 @@ pub behind-accepted : (m : Model) (rest : List (ℕ × Bool)) → modelRefusal m
 behind-accepted m rest z = clear-append (modelTable m) rest (accepted-clear m z)
 
 -- where nothing is refused the model is not
-pub behind-none : (m : Model) (rest : List (ℕ × Bool)) → refusal (modelTable m ++ rest) ≡ 0 → modelRefusal m ≡ 0
+behind-none : (m : Model) (rest : List (ℕ × Bool)) → refusal (modelTable m ++ rest) ≡ 0 → modelRefusal m ≡ 0
 behind-none m rest e = go (tested (eqb (modelRefusal m) 0))
   where
     go : (eqb (modelRefusal m) 0 ≡ true) ⊎ (eqb (modelRefusal m) 0 ≡ false) → modelRefusal m ≡ 0

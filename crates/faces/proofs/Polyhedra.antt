@@ -16,6 +16,15 @@ use Rattle.faces.specs.Spans.{Seek, RunSpan}
 use Rattle.faces.specs.declared.Span.{Span}
 use Rattle.faces.proofs.Seeking.{seek-start, seek-on, seek-found}
 
+-- the run of n words from i to e, if it is kept, and those behind it
+pub runs-next : (ws : List ℕ) (i e n : ℕ) → e ≡ i + lead (drop i ws) → n ≡ e - i → (b : Bool) → leb 3 n ≡ b → phedRings (drop i ws) ≡ onlyIf b (take n (drop i ws) ∷ []) ++ phedRings (drop (e + 1) ws)
+runs-next ws i e n is size b t =
+    let q : lead (drop i ws) ≡ n = omega arith in
+    let m : i + suc n ≡ e + 1 = omega arith in
+    phed-next (drop i ws)
+    ∙ ap (λ (k : ℕ). onlyIf (leb 3 k) (take k (drop i ws) ∷ []) ++ phedRings (drop (suc k) (drop i ws))) q
+    ∙ ap₂ (λ (x : Bool) (v : List ℕ). onlyIf x (take n (drop i ws) ∷ []) ++ phedRings v) t (drop-drop (suc n) i ws ∙ ap (λ (k : ℕ). drop k ws) m)
+
 -- the ring sought is ring `rest` of the runs from place i on
 pub record Running (ws : List ℕ) (f rest start i : ℕ) : Type 0 where
   pub seek : Seek (phedRings ws) f (phedRings (drop i ws)) rest start
@@ -26,15 +35,6 @@ pub running-start : (ws : List ℕ) (f : ℕ) → f < length (phedRings ws) → 
 running-start ws f h = record { seek = seek-start (phedRings ws) f h; small = omega arith; within = omega arith }
 
 module _ (ws : List ℕ) (f rest start i : ℕ) (p : Running ws f rest start i) (e n : ℕ) (is : e ≡ i + lead (drop i ws)) (end : e ≤ length ws) (more : i < length ws) (size : n ≡ e - i) where
-  -- the run from i to e, if it is kept, and those behind it
-  rings-next : (b : Bool) → leb 3 n ≡ b → phedRings (drop i ws) ≡ onlyIf b (take n (drop i ws) ∷ []) ++ phedRings (drop (e + 1) ws)
-  rings-next b t =
-      let q : lead (drop i ws) ≡ n = omega arith in
-      let m : i + suc n ≡ e + 1 = omega arith in
-      phed-next (drop i ws)
-      ∙ ap (λ (k : ℕ). onlyIf (leb 3 k) (take k (drop i ws) ∷ []) ++ phedRings (drop (suc k) (drop i ws))) q
-      ∙ ap₂ (λ (x : Bool) (v : List ℕ). onlyIf x (take n (drop i ws) ∷ []) ++ phedRings v) t (drop-drop (suc n) i ws ∙ ap (λ (k : ℕ). drop k ws) m)
-
   run-size : length (take n (drop i ws)) ≡ n
   run-size = length-take-le n (drop i ws) (omega (arith, length-drop i ws))
 
@@ -42,13 +42,13 @@ module _ (ws : List ℕ) (f rest start i : ℕ) (p : Running ws f rest start i) 
   pub running-short : n < 3 → Running ws f rest start (e + 1)
   running-short h =
       record {
-        seek = subst (λ (l : List (List ℕ)). Seek (phedRings ws) f l rest start) (rings-next false (lt-leb 3 n h)) (p .seek);
+        seek = subst (λ (l : List (List ℕ)). Seek (phedRings ws) f l rest start) (runs-next ws i e n is size false (lt-leb 3 n h)) (p .seek);
         small = omega (arith, p .small);
         within = omega arith;
       }
 
   seek-here : 3 ≤ n → Seek (phedRings ws) f ((take n (drop i ws) ∷ []) ++ phedRings (drop (e + 1) ws)) rest start
-  seek-here h = subst (λ (l : List (List ℕ)). Seek (phedRings ws) f l rest start) (rings-next true (le-leb 3 n h)) (p .seek)
+  seek-here h = subst (λ (l : List (List ℕ)). Seek (phedRings ws) f l rest start) (runs-next ws i e n is size true (le-leb 3 n h)) (p .seek)
 
   -- a ring is passed
   pub running-on : 3 ≤ n → 1 ≤ rest → Running ws f (rest - 1) (start + n) (e + 1)

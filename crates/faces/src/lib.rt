@@ -1,7 +1,7 @@
 // Where a face's ring lies; the ring lookup and its companion.
 ghost use mathlib.Core.Path.{_≡_};
 ghost use mathlib.Core.List.{List};
-ghost use Prim.Native.Nat.{ℕ, _+_, _≤_, _<_};
+ghost use Prim.Native.Nat.{ℕ, _<_};
 ghost use lib.ListN.{length};
 ghost use Rattle.mesh.specs.Model.{modelOf};
 ghost use Rattle.mesh.specs.Rings.{phedRings, ringsOf, wedgeRings, at as placed};
