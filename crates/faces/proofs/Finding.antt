@@ -23,23 +23,29 @@ pub record Finding (kinds ends words : List ℕ) (f rest start from i : ℕ) : T
   pub walked : Walked kinds ends words from i
   pub small : start ≤ 24 * i + from
 
+-- at the first cell all faces are left
 pub finding-start : (kinds ends words : List ℕ) (f : ℕ) → Sound kinds ends words → f < length (ringsIn kinds ends words) → Finding kinds ends words f f 0 0 0
 finding-start kinds ends words f s h = record { seek = seek-start (ringsIn kinds ends words) f h; walked = walked-start kinds ends words s; small = omega arith }
 
 module _ (kinds ends words : List ℕ) (f rest start from i : ℕ) (p : Finding kinds ends words f rest start from i) (sound : Sound kinds ends words) (more : i < length kinds) (e : ℕ) (is : e ≡ getD ends i 0) (t : RunTally) (k : KindCounted (next-cell kinds ends words from i (p .walked) sound more e is) t) where
+  -- the next cell
   abbrev cell : Raw
   cell = next-cell kinds ends words from i (p .walked) sound more e is
 
+  -- the face among the next cell's rings and those behind them
   seek-cell : Seek (ringsIn kinds ends words) f (ringsOf cell ++ each ringsOf (left kinds ends words e (i + 1))) rest start
   seek-cell =
       subst (λ (l : List Raw). Seek (ringsIn kinds ends words) f (each ringsOf l) rest start) (next-left kinds ends words from i (p .walked) sound more e is) (p .seek)
 
+  -- the next cell's words lie in order and within all words
   ends-there : (from ≤ e) × (e ≤ length words)
   ends-there = next-end kinds ends words from i (p .walked) sound more e is
 
+  -- the ring words before the cell behind it are few
   words-next : start + t .words ≤ 24 * (i + 1) + e
   words-next = omega (arith, p .small, k .small, ends-there .0, next-words kinds ends words from i (p .walked) sound more e is)
 
+  -- so their number fits
   pub words-fit : start + t .words < 4294967296
   words-fit = omega (arith, words-next, ends-there .1, sound .few, sound .small)
 
@@ -74,6 +80,7 @@ finding-more kinds ends words f rest start from i p h = omega (arith, p .seek .m
 -- ---- the cell found
 
 module _ (kinds ends words : List ℕ) (f : ℕ) (p : Place) (sound : Sound kinds ends words) (c : CellFound kinds ends words f p) where
+  -- the cell's words are as many as its places
   found-words : length (take (p .end - p .from) (drop (p .from) words)) ≡ p .end - p .from
   found-words = length-take-le (p .end - p .from) (drop (p .from) words) (omega (arith, length-drop (p .from) words, c .from, c .end))
 

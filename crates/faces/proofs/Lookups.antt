@@ -44,35 +44,44 @@ behind-none m rest e = go (tested (eqb (modelRefusal m) 0))
 abbrev listsOff : Model → List ℕ → List ℕ → Bool
 listsOff m raw welded = not (eqb (length raw) (length (ringWords (facesIn m)))) || not (eqb (length welded) (length (ringWords (facesIn m))))
 
+-- the lookup's own rows
 abbrev rows : Model → List ℕ → List ℕ → ℕ → List (ℕ × Bool)
 rows m raw welded f = (4, listsOff m raw welded) ∷ (12, faceOff m f) ∷ []
 
 -- ---- the companion's answer
 
 module _ (m : Model) (raw welded : List ℕ) (f : ℕ) (t : CellTally) (k : ModelCounted m t) where
+  -- the model is refused
   pub refused-model : t .refusal ≢ 0 → t .refusal ≡ lookupRefusal m raw welded f
   unfolding lookupRefusal
   refused-model z = k .refusal ∙ sym (behind-refused m (rows m raw welded f) (λ e. z (k .refusal ∙ e)))
 
+  -- the model is accepted, and the rows behind it decide
   accepted : t .refusal ≡ 0 → lookupRefusal m raw welded f ≡ refusal (rows m raw welded f)
   unfolding lookupRefusal
   accepted z = behind-accepted m (rows m raw welded f) (sym (k .refusal) ∙ z)
 
+  -- the raw list isn't R words
   pub refused-raw : t .refusal ≡ 0 → length raw ≢ t .words → 4 ≡ lookupRefusal m raw welded f
   refused-raw z n = sym (accepted z ∙ rw (ne-eqb (length raw) (length (ringWords (facesIn m))) (λ e. n (e ∙ sym (k .words z)))))
 
+  -- the raw list is
   raw-right : t .refusal ≡ 0 → length raw ≡ t .words → eqb (length raw) (length (ringWords (facesIn m))) ≡ true
   raw-right z e = eq-eqb (length raw) (length (ringWords (facesIn m))) (e ∙ k .words z)
 
+  -- the welded list isn't
   pub refused-welded : t .refusal ≡ 0 → length raw ≡ t .words → length welded ≢ t .words → 4 ≡ lookupRefusal m raw welded f
   refused-welded z e n = sym (accepted z ∙ rw (raw-right z e, ne-eqb (length welded) (length (ringWords (facesIn m))) (λ y. n (y ∙ sym (k .words z)))))
 
+  -- the welded list is
   welded-right : t .refusal ≡ 0 → length welded ≡ t .words → eqb (length welded) (length (ringWords (facesIn m))) ≡ true
   welded-right z e = eq-eqb (length welded) (length (ringWords (facesIn m))) (e ∙ k .words z)
 
+  -- there is no such face
   pub refused-face : t .refusal ≡ 0 → length raw ≡ t .words → length welded ≡ t .words → t .faces ≤ f → 12 ≡ lookupRefusal m raw welded f
   refused-face z a b h = sym (accepted z ∙ rw (raw-right z a, welded-right z b, le-leb (length (facesIn m)) f (omega (arith, k .faces z))))
 
+  -- nothing is refused
   pub refused-none : t .refusal ≡ 0 → length raw ≡ t .words → length welded ≡ t .words → f < t .faces → 0 ≡ lookupRefusal m raw welded f
   refused-none z a b h = sym (accepted z ∙ rw (raw-right z a, welded-right z b, lt-leb (length (facesIn m)) f (omega (arith, k .faces z))))
 
@@ -85,6 +94,7 @@ pub record Looked (m : Model) (raw welded : List ℕ) (f : ℕ) : Type 0 where
   pub welded-is : length welded ≡ ringTotal (ringsAll m)
   pub face : f < length (ringsAll m)
 
+-- nothing is refused, so that holds
 pub looked : (m : Model) (raw welded : List ℕ) (f : ℕ) → lookupRefusal m raw welded f ≡ 0 → Looked m raw welded f
 unfolding lookupRefusal
 looked m raw welded f e =
@@ -107,10 +117,12 @@ part-within m raw welded f s z p =
     let w = span-within (ringsAll m) f (l .face) in
     (omega (arith, w, p .start, p .len, l .raw-is), omega (arith, w, p .start, p .len, l .welded-is))
 
+-- at a refusal the part is empty
 pub part-none : (m : Model) (raw welded : List ℕ) (which : RingList) (f : ℕ) → lookupRefusal m raw welded f ≢ 0 → [] ≡ ringPart m raw welded which f
 unfolding ringPart
 part-none m raw welded which f z = rw (ne-eqb (lookupRefusal m raw welded f) 0 z)
 
+-- else it is the ring in the list named
 pub part-is : (m : Model) (raw welded : List ℕ) (which : RingList) (f : ℕ) (s : Span) → lookupRefusal m raw welded f ≡ 0 → SpanIn (ringsAll m) f s
     → take ((s .start + s .len) - s .start) (drop (s .start) (named which raw welded)) ≡ ringPart m raw welded which f
 unfolding ringPart

@@ -31,10 +31,12 @@ pub record Running (ws : List ℕ) (f rest start i : ℕ) : Type 0 where
   pub small : start ≤ i
   pub within : i ≤ length ws + 1
 
+-- at place 0 all rings are left
 pub running-start : (ws : List ℕ) (f : ℕ) → f < length (phedRings ws) → Running ws f f 0 0
 running-start ws f h = record { seek = seek-start (phedRings ws) f h; small = omega arith; within = omega arith }
 
 module _ (ws : List ℕ) (f rest start i : ℕ) (p : Running ws f rest start i) (e n : ℕ) (is : e ≡ i + lead (drop i ws)) (end : e ≤ length ws) (more : i < length ws) (size : n ≡ e - i) where
+  -- the run has n words
   run-size : length (take n (drop i ws)) ≡ n
   run-size = length-take-le n (drop i ws) (omega (arith, length-drop i ws))
 
@@ -47,6 +49,7 @@ module _ (ws : List ℕ) (f rest start i : ℕ) (p : Running ws f rest start i) 
         within = omega arith;
       }
 
+  -- the ring sought is the run or lies behind it
   seek-here : 3 ≤ n → Seek (phedRings ws) f ((take n (drop i ws) ∷ []) ++ phedRings (drop (e + 1) ws)) rest start
   seek-here h = subst (λ (l : List (List ℕ)). Seek (phedRings ws) f l rest start) (runs-next ws i e n is size true (le-leb 3 n h)) (p .seek)
 

@@ -43,10 +43,12 @@ rings-are : (m : Model) → map (λ f. f .ring) (facesIn m) ≡ ringsAll m
 unfolding cellsOf
 rings-are m = rings-in m
 
+-- as many faces as rings
 pub faces-are : (m : Model) → length (facesIn m) ≡ length (ringsAll m)
 unfolding cellsOf
 faces-are m = face-count m
 
+-- R is the number of their words
 pub words-are : (m : Model) → length (ringWords (facesIn m)) ≡ ringTotal (ringsAll m)
 unfolding cellsOf
 words-are m = ap length (ring-words m)
@@ -55,6 +57,7 @@ words-are m = ap length (ring-words m)
 pub ring-at : (m : Model) (f : ℕ) → faceAt (facesIn m) f .ring ≡ getD (ringsAll m) f []
 ring-at m f = sym (List·getD-map (λ (g : Face). g .ring) (facesIn m) f noFace) ∙ ap (λ (l : List (List ℕ)). getD l f []) (rings-are m)
 
+-- the rings of the first n faces
 take-rings : (n : ℕ) (fs : List Face) → map (λ f. f .ring) (take n fs) ≡ take n (map (λ f. f .ring) fs)
 take-rings zero fs = refl
 take-rings (suc n) [] = refl

@@ -18,6 +18,7 @@ pub record Walked (kinds ends words : List ℕ) (from i : ℕ) : Type 0 where
   pub well : WellCells (left kinds ends words from i)
   pub seen : i ≤ length kinds
 
+-- at the start all cells are left
 pub walked-start : (kinds ends words : List ℕ) → Sound kinds ends words → Walked kinds ends words 0 0
 walked-start kinds ends words s = record { order = s .order; well = s .well; seen = omega arith }
 
@@ -26,22 +27,27 @@ module _ (kinds ends words : List ℕ) (from i : ℕ) (p : Walked kinds ends wor
   abbrev pub next-cell : Raw
   next-cell = cellWith (getD kinds i 0) (take (e - from) (drop from words))
 
+  -- its words lie in order and within all words
   pub next-end : (from ≤ e) × (e ≤ length words)
   next-end =
       let q = ends-next from ends (length words) i (p .order) (omega (arith, sound .paired)) in
       (omega (arith, q .0), omega (arith, ends-most (getD ends i 0) (drop (i + 1) ends) (length words) (q .1)))
 
+  -- it and the cells behind it are those left
   pub next-left : left kinds ends words from i ≡ next-cell ∷ left kinds ends words e (i + 1)
   next-left =
       subst (λ (j : ℕ). left kinds ends words from i ≡ cellWith (getD kinds i 0) (take (j - from) (drop from words)) ∷ left kinds ends words j (i + 1)) (sym is)
       (left-next kinds ends words from i more (omega (arith, sound .paired)) (omega (arith, next-end .0)))
 
+  -- all of them are right
   wells : WellCell next-cell × WellCells (left kinds ends words e (i + 1))
   wells = subst WellCells next-left (p .well)
 
+  -- it is right
   pub next-well : WellCell next-cell
   next-well = wells .0
 
+  -- its words are as many as its places
   pub next-words : length (take (e - from) (drop from words)) ≡ e - from
   next-words = length-take-le (e - from) (drop from words) (omega (arith, length-drop from words, next-end .0, next-end .1))
 

@@ -44,14 +44,17 @@ keep-short p (r ∷ rs) e =
     go (inl a) s ih = rw (a, s) ih
     go (inr a) s ih = rw a ih
 
+-- no ring of a PHED is too long
 phed-short : (k : ℕ) (ws : List ℕ) → WellCell (cellWith k ws) → k ≡ 4 → any tooLong (phedRings ws) ≡ false
 phed-short k ws w e =
     let c : countWrong (cellWith 4 ws) ≡ false = subst (λ (j : ℕ). countWrong (cellWith j ws) ≡ false) e (w .count) in
     keep-short (λ r. leb 3 (length r)) (runs ws) (or-none (eqb (length ws) 0) (any tooLong (runs ws)) c .1)
 
+-- no ring of a cell is too long
 rings-short : (k : ℕ) (ws : List ℕ) → WellCell (cellWith k ws) → any tooLong (ringsOf (cellWith k ws)) ≡ false
 rings-short k ws w = by-kind (λ rs. any tooLong rs ≡ false) k ws w refl refl refl (phed-short k ws w)
 
+-- a ring of a list without too long ones
 short-at : (rs : List (List ℕ)) (f : ℕ) → any tooLong rs ≡ false → f < length rs → length (getD rs f []) ≤ ringLimit
 short-at [] f e h = absurd (omega arith)
 short-at (r ∷ rs) zero e h = ltb-false ringLimit (length r) (or-none (tooLong r) (any tooLong rs) e .0)
@@ -67,10 +70,12 @@ fixed-total k ws w z = by-kind (λ rs. ringTotal rs ≤ 24) k ws w (omega arith)
 
 -- ---- counts
 
+-- a word in front adds at most one run
 onto-length : (w : ℕ) (rs : List (List ℕ)) → length (onto w rs) ≤ 1 + length rs
 onto-length w [] = omega arith
 onto-length w (r ∷ rs) = omega arith
 
+-- words have at most one run more than words
 runs-length : (ws : List ℕ) → length (runs ws) ≤ 1 + length ws
 runs-length [] = omega arith
 runs-length (w ∷ ws) = go (tested (eqb w separator)) (runs-length ws)

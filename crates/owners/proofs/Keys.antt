@@ -29,9 +29,11 @@ eql-length a b z = go (tested (eql a b))
 eql-next : (a b : List ℕ) (i : ℕ) → i < length a → i < length b → eql (drop i a) (drop i b) ≡ (eqb (getD a i 0) (getD b i 0) && eql (drop (i + 1) a) (drop (i + 1) b))
 eql-next a b i h k = rw (drop-cons a i 0 h, drop-cons b i 0 k, add-one i)
 
+-- the words differ
 pub eql-unlike : (a b : List ℕ) (i : ℕ) → i < length a → i < length b → getD a i 0 ≢ getD b i 0 → eql (drop i a) (drop i b) ≡ false
 eql-unlike a b i h k z = eql-next a b i h k ∙ rw (ne-eqb (getD a i 0) (getD b i 0) z)
 
+-- the words are the same
 pub eql-like : (a b : List ℕ) (i : ℕ) → i < length a → i < length b → getD a i 0 ≡ getD b i 0 → eql (drop i a) (drop i b) ≡ eql (drop (i + 1) a) (drop (i + 1) b)
 eql-like a b i h k e = eql-next a b i h k ∙ rw (eq-eqb (getD a i 0) (getD b i 0) e)
 
@@ -52,6 +54,7 @@ sorted-front l ring v w n h e a b =
 pub part-front : (n : ℕ) (w : List ℕ) → take (n - 0) (drop 0 w) ≡ take n w
 part-front n w = let e : n - 0 ≡ n = omega arith in ap (λ (k : ℕ). take k w) e
 
+-- the first n words are at most n
 take-most : (n : ℕ) (w : List ℕ) → length (take n w) ≤ n
 take-most zero w = omega arith
 take-most (suc n) [] = omega arith

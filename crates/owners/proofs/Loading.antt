@@ -40,9 +40,11 @@ flat-front l v rs n h a e =
     ap₂ (λ (k : ℕ) (x : List ℕ). take k (drop 0 x)) m a ∙ region-same l 0 (flat rs) (omega arith)
 
 module _ (k : ℕ) (ws : List ℕ) (f : ℕ) (s : Span) (w : WellCell (cellWith k ws)) (h : f < length (ringsOf (cellWith k ws))) (p : CellSpan k ws f s) where
+  -- from start to end are len words
   size : (s .start + s .len) - s .start ≡ s .len
   size = omega arith
 
+  -- the ring fits 64 words
   pub span-short : s .len ≤ 64
   span-short = omega (arith, p .spot .len, ring-short k ws f w h)
 
@@ -66,6 +68,7 @@ module _ (k : ℕ) (ws : List ℕ) (f : ℕ) (s : Span) (w : WellCell (cellWith 
   pub laid-end : k ≢ 4 → s .start + s .len ≤ 24
   laid-end z = omega (arith, flat-end, fixed-total k ws w z)
 
+  -- the ring there
   pub laid-is : (l v : List ℕ) → length l ≡ 24 → k ≢ 4 → v ≡ sets l 0 (flat (ringsOf (cellWith k ws))) → take ((s .start + s .len) - s .start) (drop (s .start) v) ≡ getD (ringsOf (cellWith k ws)) f []
   laid-is l v e z a =
       let m : s .start ≡ 0 + s .start = omega arith in

@@ -17,6 +17,7 @@ pub record Noting (out₀ : List ℕ) (k₀ : ℕ) (xs₀ out : List ℕ) (k : �
   pub count : k + length xs ≡ k₀ + length xs₀
   pub same : length out ≡ length out₀
 
+-- nothing is noted yet
 pub noting-start : (out : List ℕ) (k : ℕ) (xs : List ℕ) → Noting out k xs out k xs
 noting-start out k xs = record { put = refl; count = refl; same = refl }
 

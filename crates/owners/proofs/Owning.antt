@@ -29,6 +29,7 @@ use Rattle.owners.specs.Holding.{holders, held, Noted}
 abbrev keyed : List ℕ → Face → Bool
 keyed key g = eql key (sort leb (g .ring))
 
+-- the cell of a cell's faces that have the key
 cells-from : (key : List ℕ) (c n : ℕ) (rs : List (List ℕ)) → map (λ g. g .cell) (keep (keyed key) (facesFrom c n rs)) ≡ holders key c rs
 unfolding facesFrom
 cells-from key c n [] = refl
@@ -39,6 +40,7 @@ cells-from key c n (r ∷ rs) = go (tested (eql key (sort leb r))) (cells-from k
     go (inl e) ih = rw (e, ih)
     go (inr e) ih = rw (e, ih)
 
+-- the same of all cells
 cells-numbered : (key : List ℕ) (i n : ℕ) (cs : List Raw) → map (λ g. g .cell) (keep (keyed key) (faces ringsOf (numberFrom ringsOf i n cs))) ≡ held key i cs
 unfolding numberFrom faces facesOf
 cells-numbered key i n [] = refl
@@ -58,10 +60,12 @@ owners-are m f =
 
 -- ---- the list filled
 
+-- stores behind the first element
 sets-shift : (y : ℕ) (l : List ℕ) (o : ℕ) (xs : List ℕ) → sets (y ∷ l) (suc o) xs ≡ y ∷ sets l o xs
 sets-shift y l o [] = refl
 sets-shift y l o (x ∷ xs) = sets-shift y (set l o x) (suc o) xs
 
+-- no store fits an empty list
 sets-nil : (o : ℕ) (xs : List ℕ) → sets [] o xs ≡ []
 sets-nil o [] = refl
 sets-nil o (x ∷ xs) = sets-nil (suc o) xs
@@ -80,12 +84,15 @@ unfolding ownersAnswer ownersAfter
 owners-refused m f n l e z = (sym (rw (e, ne-eqb n 0 z)), sym (rw (e, ne-eqb n 0 z)))
 
 module _ (m : Model) (f : ℕ) (t : CellTally) (k : ModelCounted m t) (l : List ℕ) where
+  -- the model is refused
   pub refused-model : t .refusal ≢ 0 → (refused (t .refusal) ≡ ownersAnswer m f) × (l ≡ ownersAfter m f l)
   refused-model z = owners-refused m f (t .refusal) l (behind-refused m ((12, faceOff m f) ∷ []) (λ e. z (k .refusal ∙ e)) ∙ sym (k .refusal)) z
 
+  -- the model is accepted, and the row behind it decides
   table : t .refusal ≡ 0 → refusal (ownersTable m f) ≡ refusal ((12, faceOff m f) ∷ [])
   table z = behind-accepted m ((12, faceOff m f) ∷ []) (sym (k .refusal) ∙ z)
 
+  -- there is no such face
   pub refused-face : t .refusal ≡ 0 → t .faces ≤ f → (refused 12 ≡ ownersAnswer m f) × (l ≡ ownersAfter m f l)
   refused-face z h = owners-refused m f 12 l (table z ∙ rw (le-leb (length (facesIn m)) f (omega (arith, k .faces z)))) (λ e. omega arith)
 
@@ -93,6 +100,7 @@ module _ (m : Model) (f : ℕ) (t : CellTally) (k : ModelCounted m t) (l : List 
   pub face-there : t .refusal ≡ 0 → f < t .faces → (modelRefusal m ≡ 0) × (f < length (ringsAll m))
   face-there z h = (sym (k .refusal) ∙ z, omega (arith, k .faces z, faces-are m))
 
+  -- nothing is refused
   none : t .refusal ≡ 0 → f < t .faces → refusal (ownersTable m f) ≡ 0
   none z h = table z ∙ rw (lt-leb (length (facesIn m)) f (omega (arith, k .faces z)))
 

@@ -32,6 +32,7 @@ holders-few key cell (r ∷ rs) = go (tested (eql key (sort leb r))) (holders-fe
     go (inl e) ih = rw e (omega arith)
     go (inr e) ih = rw e (omega arith)
 
+-- the same of cells
 held-few : (key : List ℕ) (i : ℕ) (cs : List Raw) → length (held key i cs) ≤ length (each ringsOf cs)
 held-few key i [] = omega arith
 held-few key i (c ∷ cs) =
@@ -50,6 +51,7 @@ pub record Runs (ws key : List ℕ) (cell count : ℕ) (out₀ out : List ℕ) (
   pub noting : Noting out₀ count (holders key cell (phedRings ws)) out k (holders key cell (phedRings (drop i ws)))
   pub within : i ≤ length ws + 1
 
+-- at place 0 all runs are left
 pub runs-start : (ws key : List ℕ) (cell count : ℕ) (out : List ℕ) → Runs ws key cell count out out count 0
 runs-start ws key cell count out = record { noting = noting-start out count (holders key cell (phedRings ws)); within = omega arith }
 
@@ -111,6 +113,7 @@ pub record Passing (kinds ends words key out₀ out : List ℕ) (k from i : ℕ)
   pub noting : Noting out₀ 0 (held key 0 (cellsFrom 0 kinds ends words)) out k (held key i (left kinds ends words from i))
   pub walked : Walked kinds ends words from i
 
+-- at the first cell all are left
 pub passing-start : (kinds ends words key out : List ℕ) → Sound kinds ends words → Passing kinds ends words key out out 0 0 0
 passing-start kinds ends words key out s = record { noting = noting-start out 0 (held key 0 (cellsFrom 0 kinds ends words)); walked = walked-start kinds ends words s }
 
@@ -119,6 +122,7 @@ module _ (kinds ends words key out₀ out : List ℕ) (k from i : ℕ) (p : Pass
   counted : k ≤ 7 * length kinds + length words
   counted = omega (arith, p .noting .count, held-few key 0 (cellsFrom 0 kinds ends words), cells-few 0 kinds ends words (sound .well))
 
+  -- so it fits 32 bits
   pub count-fits : k < 4294967296
   count-fits = omega (arith, counted, sound .few, sound .small)
 
