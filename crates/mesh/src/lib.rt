@@ -201,7 +201,7 @@ fn tally_phed(words: &[u32]) -> RunTally
 }
 
 // A cell's word count and rings, by its kind.
-fn tally_kind(kind: u8, words: &[u32]) -> RunTally
+pub fn tally_kind(kind: u8, words: &[u32]) -> RunTally
     requires { ⌜ (length (now words) < 4294967296) × (kindOff 0 kind ≡ false) ⌝ }
     ensures { λ r. ⌜ KindCounted (cellWith kind (now (words .entry))) r ⌝ }
 {

@@ -1,0 +1,2 @@
+-- Internal contracts on where a face's ring lies.
+pub mod Spans
