@@ -22,7 +22,8 @@ use Rattle.findings.specs.Compared.{none, moved, endsFrom, withCells, re
 use Rattle.findings.specs.Demand3.{Reordering}
 use Rattle.mesh.specs.Model.{ascending}
 use Rattle.findings.proofs.Laws.{any-perm, length-snoc}
-use Rattle.findings.proofs.Faces.{rings-of}
+
+use Rattle.mesh.proofs.Accepted.{face-count, ring-words}
 use Rattle.mesh.proofs.Accepts.{accepted-clear, cellWrong, Accepts, accepted}
 use Rattle.laws.proofs.Tables.{clear-append}
 use Rattle.laws.proofs.Tests.{or-none}
@@ -150,32 +151,16 @@ module _ (m : Model) (σ : List ℕ) (h : Accepts m) (r : Reordering m σ) where
 
 -- ---- the work
 
--- the rings of all faces are those of all cells
-pub rings-all : (i n : ℕ) (cs : List Raw) → map (λ f. f .ring) (faces ringsOf (numberFrom ringsOf i n cs)) ≡ each ringsOf cs
-unfolding faces facesOf numberFrom
-rings-all i n [] = refl
-rings-all i n (c ∷ cs) = simp (map-append, rings-of, rings-all (suc i) (n + length (ringsOf c)) cs)
-
--- so many faces
-pub faces-count : (m : Model) → length (facesIn m) ≡ length (each ringsOf (cellsOf m))
-unfolding facesIn numbered
-faces-count m = sym (length-map (facesIn m) (λ f. f .ring)) ∙ ap length (rings-all 0 0 (cellsOf m))
-
--- so many ring words
-ring-words : (m : Model) → length (ringWords (facesIn m)) ≡ length (each (λ r. r) (each ringsOf (cellsOf m)))
-unfolding facesIn numbered
-ring-words m = ap length (sym (each-map (λ r. r) (λ (f : Face). f .ring) (facesIn m)) ∙ ap (each (λ r. r)) (rings-all 0 0 (cellsOf m)))
-
 -- a reordered model needs the same work
 pub same-work : (m : Model) (σ : List ℕ) → Accepts m → Reordering m σ → workNeeded (reordered σ m) ≡ workNeeded m
 unfolding workNeeded
 same-work m σ h r =
     let f : length (facesIn (reordered σ m)) ≡ length (facesIn m) =
-    faces-count (reordered σ m) ∙ ap (λ (l : List Raw). length (each ringsOf l)) (reordered-cells σ m)
-    ∙ same-number m σ h r (λ l. length (each ringsOf l)) (λ l k d. perm-length (perm-each ringsOf d)) ∙ sym (faces-count m) in
+    face-count (reordered σ m) ∙ ap (λ (l : List Raw). length (each ringsOf l)) (reordered-cells σ m)
+    ∙ same-number m σ h r (λ l. length (each ringsOf l)) (λ l k d. perm-length (perm-each ringsOf d)) ∙ sym (face-count m) in
     let w : length (ringWords (facesIn (reordered σ m))) ≡ length (ringWords (facesIn m)) =
-    ring-words (reordered σ m) ∙ ap (λ (l : List Raw). length (each (λ r. r) (each ringsOf l))) (reordered-cells σ m)
-    ∙ same-number m σ h r (λ l. length (each (λ r. r) (each ringsOf l))) (λ l k d. perm-length (perm-each (λ r. r) (perm-each ringsOf d))) ∙ sym (ring-words m) in
+    ap length (ring-words (reordered σ m)) ∙ ap (λ (l : List Raw). length (each (λ r. r) (each ringsOf l))) (reordered-cells σ m)
+    ∙ same-number m σ h r (λ l. length (each (λ r. r) (each ringsOf l))) (λ l k d. perm-length (perm-each (λ r. r) (perm-each ringsOf d))) ∙ sym (ap length (ring-words m)) in
     let n : nodeCount (reordered σ m .coords) ≡ nodeCount (m .coords) = unfold reordered withCells in refl in
     rw (f, w, same-kinds m σ h r, same-words m σ h r, n)
 

@@ -20,7 +20,8 @@ use Rattle.findings.specs.Rules.{pairLe, pairOf, repeatAt, repeatsOf}
 use Rattle.findings.proofs.Laws.{Every, every-imp, every-parts, every-keep, every-last, every-map-in, every-map-parts, every-each, every-walk-in}
 use Rattle.mesh.proofs.Accepts.{cellWrong, Accepts}
 use Rattle.laws.proofs.Tests.{or-none}
-use Rattle.findings.proofs.Moved.{cells-count, cells-words, rings-all, faces-count}
+use Rattle.findings.proofs.Moved.{cells-count, cells-words}
+use Rattle.mesh.proofs.Accepted.{rings-numbered, face-count}
 
 -- ---- how many faces
 
@@ -59,7 +60,7 @@ all-few (c ∷ cs) =
 -- an accepted model has under 2^32 faces
 pub faces-few : (m : Model) → Accepts m → length (facesIn m) < 4294967296
 faces-few m h =
-    omega (arith, faces-count m, all-few (cellsOf m), cells-count m h, ap length (cells-words m h), ltb-false cellLimit (length (m .kinds)) (h .cells), ltb-false wordLimit (length (m .words)) (h .words))
+    omega (arith, face-count m, all-few (cellsOf m), cells-count m h, ap length (cells-words m h), ltb-false cellLimit (length (m .kinds)) (h .cells), ltb-false wordLimit (length (m .words)) (h .words))
 
 -- and under 2^32 cells
 pub cells-few : (m : Model) → Accepts m → length (cellsOf m) < 4294967296
@@ -110,7 +111,7 @@ unfolding facesIn numbered
 rings-short m h =
     let w : length (each (λ (c : Raw). c .words) (cellsOf m)) ≤ wordLimit = omega (arith, ap length (cells-words m h), ltb-false wordLimit (length (m .words)) (h .words)) in
     every-map-parts Short (λ (f : Face). f .ring) (facesIn m)
-    (rw (rings-all 0 0 (cellsOf m))
+    (rw (rings-numbered 0 0 (cellsOf m))
     (every-each (λ (c : Raw). length (c .words) ≤ wordLimit) Short ringsOf (λ c u. every-imp (Upto (length (c .words) + 4)) Short (λ r v. omega arith) (ringsOf c) (ring-lengths c)) (cellsOf m)
     (words-few wordLimit (cellsOf m) w)))
   where

@@ -117,7 +117,7 @@ map-over : (a b : List Face) → map (λ f. f .ring) (a ++ b) ≡ map (λ f. f .
 map-over [] b = refl
 map-over (f ∷ a) b = ap (λ (l : List (List ℕ)). f .ring ∷ l) (map-over a b)
 
-rings-numbered : (i n : ℕ) (cs : List Raw) → map (λ f. f .ring) (faces ringsOf (numberFrom ringsOf i n cs)) ≡ each ringsOf cs
+pub rings-numbered : (i n : ℕ) (cs : List Raw) → map (λ f. f .ring) (faces ringsOf (numberFrom ringsOf i n cs)) ≡ each ringsOf cs
 unfolding numberFrom faces facesOf
 rings-numbered i n [] = refl
 rings-numbered i n (c ∷ cs) =

@@ -19,7 +19,7 @@ use Rattle.mesh.specs.Acceptance.{endsOff, shapeOff, kindOff, countWrong
 use Rattle.mesh.proofs.Accepted.{nines}
 
 -- every row of a model has a number
-numbers-model : (m : Model) → Numbered (modelTable m)
+pub numbers-model : (m : Model) → Numbered (modelTable m)
 numbers-model m =
     let cells = cellsTable (nodeCount (m .coords)) 0 (cellsOf m) in
     (λ e. omega arith, (λ e. omega arith, (λ e. omega arith, (λ e. omega arith, numbered-append cells _ (nines (nodeCount (m .coords)) 0 (cellsOf m)) (λ e. omega arith, tt)))))

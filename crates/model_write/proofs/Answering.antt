@@ -15,7 +15,8 @@ use Rattle.laws.specs.Refusals.{refused, done, answer, filled}
 use Rattle.laws.specs.Limits.{flagLimit}
 use Rattle.laws.proofs.ListLaws.{each-append}
 use Rattle.laws.proofs.Stores.{sets-append}
-use Rattle.laws.proofs.Tables.{Numbered, refusal-first, refusal-second}
+use Rattle.mesh.proofs.Accepts.{numbers-model}
+use Rattle.laws.proofs.Tables.{refusal-first, refusal-second}
 use Rattle.geometry.specs.Coordinates.{nodeCount}
 use Rattle.mesh.specs.Model.{Model, cellsOf}
 use Rattle.mesh.specs.Acceptance.{cellsTable, modelTable, modelRefusal}
@@ -89,17 +90,6 @@ module _ (m : Model) where
 
 -- ---- the answer
 
--- tables one after the other
-numbered-append : (a b : List (ℕ × Bool)) → Numbered a → Numbered b → Numbered (a ++ b)
-numbered-append [] b n k = k
-numbered-append (row ∷ rows) b n k = (n .0, numbered-append rows b (n .1) k)
-
--- every number of the model's table is a refusal's
-model-numbered : (m : Model) → Numbered (modelTable m)
-model-numbered m =
-    let nine = nines (nodeCount (m .coords)) 0 (cellsOf m) in
-    (λ e. omega arith, (λ e. omega arith, (λ e. omega arith, (λ e. omega arith, numbered-append (cellsTable (nodeCount (m .coords)) 0 (cellsOf m)) ((10, ltb flagLimit (m .flags)) ∷ []) nine (λ e. omega arith, tt)))))
-
 module _ (m : Model) (out : List ℕ) where
   -- 5 to 10 come first
   pub refused-model : modelRefusal m ≢ 0 → writeRefusal m out ≡ modelRefusal m
@@ -109,7 +99,7 @@ module _ (m : Model) (out : List ℕ) where
   -- then 4
   then-four : modelRefusal m ≡ 0 → writeRefusal m out ≡ cond (ltb (length out) (length (encode m))) 4 0
   unfolding modelRefusal
-  then-four z = refusal-second (modelTable m) ((4, ltb (length out) (length (encode m))) ∷ []) (model-numbered m) z
+  then-four z = refusal-second (modelTable m) ((4, ltb (length out) (length (encode m))) ∷ []) (numbers-model m) z
 
   pub refused-room : modelRefusal m ≡ 0 → length out < length (encode m) → writeRefusal m out ≡ 4
   refused-room z h = then-four z ∙ ap (λ (b : Bool). cond b 4 0) (lt-ltb (length out) (length (encode m)) h)
