@@ -9,7 +9,7 @@ use lib.ListN.{length, set, length-append}
 use Rattle.laws.specs.Lists.{sort, eql}
 use lib.Seq.{sets, set-out, length-sets}
 use Rattle.laws.proofs.Stores.{sets-append}
-use Rattle.owners.specs.Holding.{holder, Noted}
+use Rattle.faces.specs.Holding.{holder, Noted}
 
 -- xs noted from place k on gives what all of them noted at the start gives
 pub record Noting (out₀ : List ℕ) (k₀ : ℕ) (xs₀ out : List ℕ) (k : ℕ) (xs : List ℕ) : Type 0 where
