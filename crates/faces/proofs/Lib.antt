@@ -1,4 +1,4 @@
--- Laws of where a face's ring lies.
+-- Laws of where a face's ring lies, and of its owners.
 pub mod Seeking
 pub mod Spanning
 pub mod Polyhedra
@@ -6,3 +6,9 @@ pub mod Walking
 pub mod Finding
 pub mod Rings
 pub mod Lookups
+pub mod Keys
+pub mod Bounds
+pub mod Loading
+pub mod Noting
+pub mod Passing
+pub mod Owning

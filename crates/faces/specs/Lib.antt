@@ -1,2 +1,3 @@
--- Internal contracts on where a face's ring lies.
+-- Internal contracts on where a face's ring lies, and on its owners.
 pub mod Spans
+pub mod Holding

@@ -1,2 +1,0 @@
--- Internal contracts on the owners of a face.
-pub mod Holding
