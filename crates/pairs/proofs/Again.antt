@@ -1,10 +1,10 @@
 -- What the index leaves any search can ask, and what a search leaves the next can.
-use Prim.Native.Nat.{ℕ, _<_}
+use Prim.Native.Nat.{ℕ}
 use mathlib.Core.Path.{sym, subst}
 use mathlib.Core.List.{List, _++_}
 use native.Mathlib.Omega.{arith}
 use lib.ListN.{length}
-use lib.Seq.{sets, length-sets}
+use lib.Seq.{length-sets}
 use Rattle.index.specs.declared.Places.{Places}
 use Rattle.index.specs.Faces.{input, offsetsOf, indexOf, Laid, Room}
 use Rattle.index.proofs.Built.{built, below-found}

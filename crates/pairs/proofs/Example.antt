@@ -1,7 +1,7 @@
 -- Document 01's example, computed: tetrahedron 4 5 6 8 (cell 0, faces 0 to 3) and hexahedron 0 to 7 (cell 1, faces 4 to 9).
 use Prim.Native.Nat.{ℕ}
 use mathlib.Core.Bool.{true}
-use mathlib.Core.List.{List, [], _∷_, _++_}
+use mathlib.Core.List.{List, [], _∷_}
 use mathlib.Core.Path.{_≡_, refl}
 use Rattle.index.specs.declared.Places.{Places}
 use Rattle.index.specs.Faces.{nodesOf, wordsOf, facesWith, offsetsOf}

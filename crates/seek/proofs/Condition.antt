@@ -1,7 +1,7 @@
 -- The condition of a candidate, in the order in which it is tested.
 use Prim.Native.Nat.{ℕ}
-use mathlib.Core.Path.{_≡_, sym, ap, _∙_}
-use mathlib.Core.Bool.{Bool, true, false, not, _&&_, and-assoc, and-false}
+use mathlib.Core.Path.{_≡_, sym}
+use mathlib.Core.Bool.{true, false, not, _&&_, and-assoc, and-false}
 use mathlib.Core.List.{List, []}
 use lib.Dec.{ltb, eqb, leb}
 use lib.ListN.{length}

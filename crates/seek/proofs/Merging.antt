@@ -7,7 +7,7 @@ use mathlib.Core.List.{List, [], _∷_, map}
 use native.Mathlib.Omega.{arith}
 use native.Mathlib.Numerals.{add-one}
 use native.Mathlib.Nat.{add-zero, zero-add}
-use lib.Dec.{leb, ltb, eqb, leb·zero}
+use lib.Dec.{leb, eqb, leb·zero}
 use lib.ListN.{length, getD, take, drop, length-map, List·getD-map}
 use lib.Seq.{sets, length-sets, drop-drop}
 use Rattle.laws.specs.Merging.{region}

@@ -1,5 +1,5 @@
 -- The faces of one of three nodes hold all faces that have the three.
-use Prim.Native.Nat.{ℕ, zero, suc, _+_, _-_, _≤_, _<_}
+use Prim.Native.Nat.{ℕ, suc, _+_, _-_, _≤_, _<_}
 use mathlib.Core.Path.{_≡_, refl, sym, ap, ap₂, _∙_, subst}
 use mathlib.Core.Logic.{_⊎_, inl, inr, ⊎-elim}
 use mathlib.Core.Bool.{Bool, true, false, _&&_, _||_, false≢true, or-false}
@@ -15,7 +15,7 @@ use Rattle.laws.proofs.Tests.{tested, or-cases, and-parts}
 use borrow.Author.Tests.{ltb-true, eqb-true}
 use Rattle.counting.proofs.CountLaws.{below-suc}
 use Rattle.laws.proofs.Stores.{getD-region, length-region}
-use Rattle.laws.proofs.Ascending.{elem-keep, elem-upFrom, head-in}
+use Rattle.laws.proofs.Ascending.{elem-keep, elem-upFrom}
 use Rattle.index.specs.declared.Places.{Places}
 use Rattle.index.specs.Faces.{input, base, nodesOf, wordsOf, facesWith}
 use Rattle.merge.specs.Runs.{rest}

@@ -3,8 +3,7 @@ use Rattle.seek.specs.Steps.{apart}
 use Rattle.seek.proofs.Read.{read-cell}
 use Rattle.index.specs.Faces.{input, cellOf}
 use borrow.Author.Tests.{le-ltb, lt-ltb, eq-eqb, ne-eqb}
-use Prim.Native.Nat.{ℕ}
-use mathlib.Core.Bool.{Bool, true, false, not, _&&_, and-false}
+use mathlib.Core.Bool.{Bool, false, not}
 use mathlib.Core.Path.{_≡_, sym, ap, _∙_}
 use borrow.Author.Needs.{needs}
 use Rattle.seek.proofs.is_apart.Statement.{statement}
