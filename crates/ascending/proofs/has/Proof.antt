@@ -16,6 +16,7 @@ use Rattle.laws.specs.Lists.{elem}
 use lib.Dec.{eqb}
 use mathlib.Core.Bool.{Bool, _||_}
 
+-- what is left, one word at a time
 one-more : (base : List ℕ) (s k v i : ℕ) → s + k ≤ length base → i < k → elem v (drop i (region s k base)) ≡ (eqb v (getD base (s + i) 0) || elem v (drop (i + 1) (region s k base)))
 one-more base s k v i h b =
     ap (elem v) (dropped (region s k base) i (omega (arith, length-region s k base h)))

@@ -17,11 +17,13 @@ use Rattle.laws.specs.Merging.{region}
 use Rattle.laws.specs.Lists.{add}
 use mathlib.Core.Logic.{⊎-elim, _≢_}
 
+-- the seat is within the list
 seated : (c : tie.After-seat) → c .seat .result ≤ c .before .before .before .args .n
 seated c =
     let a = c .before .before .before .args in
     omega (arith, c .seat .ensures, seat-le (a .v) (region (a .o) (a .n) (a .work .now)), length-region (a .o) (a .n) (a .work .now) (c .before .before .before .pre .0))
 
+-- v does not stand there
 fresh : (c : tie.Joined1) → c .before .seat .result < c .before .before .before .before .args .n → getD (region (c .before .before .before .before .args .o) (c .before .before .before .before .args .n) (c .before .before .before .before .args .work .now)) (c .before .seat .result) 0 ≢ c .before .before .before .before .args .v
 fresh c =
     let a = c .before .before .before .before .args in
@@ -30,6 +32,7 @@ fresh c =
     (λ u h. absurd (omega (arith, u .left)))
     (c .if1 .came)
 
+-- the list gets longer by one
 longer : (c : tie.Joined1) → length (add leb (c .before .before .before .before .args .v) (region (c .before .before .before .before .args .o) (c .before .before .before .before .args .n) (c .before .before .before .before .args .work .now))) ≡ suc (c .before .before .before .before .args .n)
 longer c =
     let a = c .before .before .before .before .args in

@@ -15,6 +15,7 @@ use Rattle.laws.proofs.Tests.{eqb-self, split}
 use borrow.Author.Tests.{ne-eqb}
 use Rattle.merge.specs.Runs.{head, stands}
 
+-- a run that has g next is not at its end
 stands-lt : (b : List ℕ) (x e g : ℕ) → head (g + 1) x e b ≡ g → x < e
 stands-lt b x e g h = ⊎-elim (λ s. s) (λ s. let z : e - x ≡ 0 = omega arith in absurd (omega (arith, rw z at h))) (split x e)
 

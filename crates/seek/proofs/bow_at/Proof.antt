@@ -11,11 +11,13 @@ use borrow.Author.Needs.{needs}
 use Rattle.seek.proofs.bow_at.Statement.{statement}
 use Rattle.seek.proofs.bow_at.Tie as tie
 
+-- the first word is the cell
 cell-is : (c : tie.After-wide) → c .wide .result ≡ cellOf (c .before .before .before .before .args .at) (input (c .before .before .before .before .args .at) (c .before .before .before .before .args .base .now)) (c .before .before .before .before .args .g)
 cell-is c =
     let a = c .before .before .before .before .args in
     c .wide .ensures ∙ read-cell (a .at) (a .base .now) (c .before .before .before .before .pre .0) (a .g) (c .before .before .before .before .pre .1)
 
+-- its word on bow-ties lies within the slice
 within : (c : tie.After-wide) → c .before .before .before .before .args .at .bows + c .wide .result < lib.ListN.length (c .before .before .before .before .args .base .now)
 within c =
     let a = c .before .before .before .before .args in

@@ -9,6 +9,7 @@ use borrow.Author.Needs.{needs}
 use Rattle.seek.proofs.is_apart.Statement.{statement}
 use Rattle.seek.proofs.is_apart.Tie as tie
 
+-- the cells differ
 others : (c : tie.Else2) → _≡_ {A = Bool} (lib.Dec.eqb (cellOf (c .before .before .before .before .before .args .at) (input (c .before .before .before .before .before .args .at) (c .before .before .before .before .before .args .base .now)) (c .before .before .before .before .before .args .lo)) (cellOf (c .before .before .before .before .before .args .at) (input (c .before .before .before .before .before .args .at) (c .before .before .before .before .before .args .base .now)) (c .before .before .before .before .before .args .g))) false
 others c =
     let a = c .before .before .before .before .before .args in

@@ -13,6 +13,7 @@ use borrow.Author.Needs.{needs}
 use Rattle.seek.proofs.is_candidate.Statement.{statement}
 use Rattle.seek.proofs.is_candidate.Tie as tie
 
+-- there are three common nodes
 three : (c : tie.Else1) → leb 3 (length (common (nodesOf (c .before .before .args .at) (input (c .before .before .args .at) (c .before .before .args .base .now)) (c .before .before .args .lo)) (nodesOf (c .before .before .args .at) (input (c .before .before .args .at) (c .before .before .args .base .now)) (c .before .before .args .g)))) ≡ true
 three c = ap (leb 3) (sym (c .before .before .pre .1 .1)) ∙ le-leb 3 (c .before .before .args .c) (c .if1 .left)
 

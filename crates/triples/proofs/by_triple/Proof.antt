@@ -12,6 +12,7 @@ use Rattle.triples.specs.Hits.{Added}
 use Rattle.laws.specs.Lists.{elem}
 use mathlib.Core.Bool.{true}
 
+-- the node of the shortest list is a node
 low : (c : tie.After-shortest) → c .shortest .result < c .before .before .before .args .at .nodes
 low c =
     let a = c .before .before .before .args in

@@ -18,6 +18,7 @@ use Rattle.laws.specs.Lists.{add}
 use lib.Dec.{leb, eqb}
 use mathlib.Core.Bool.{true, false, or-false}
 
+-- one face
 only : (p : Places) (g : ℕ) → g < p .faces → Faces p (g ∷ [])
 only p g h x e = let s : x ≡ g = eqb-true x g (sym (or-false (eqb x g)) ∙ e) in omega arith
 

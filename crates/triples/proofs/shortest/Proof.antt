@@ -11,9 +11,11 @@ use borrow.Author.Needs.{needs}
 use Rattle.triples.proofs.shortest.Statement.{statement}
 use Rattle.triples.proofs.shortest.Tie as tie
 
+-- the second of three
 second : (a b c : ℕ) → elem b (a ∷ b ∷ c ∷ []) ≡ true
 second a b c = ap (λ (x : Bool). eqb b a || (x || (eqb b c || false))) (eqb-self b) ∙ or-true (eqb b a)
 
+-- the third
 third : (a b c : ℕ) → elem c (a ∷ b ∷ c ∷ []) ≡ true
 third a b c = ap (λ (x : Bool). eqb c a || (eqb c b || (x || false))) (eqb-self c) ∙ ap (λ (x : Bool). eqb c a || x) (or-true (eqb c b)) ∙ or-true (eqb c a)
 
