@@ -6,6 +6,7 @@ use mathlib.Core.Bool.{Bool, true, false, _||_}
 use mathlib.Core.List.{List, [], _∷_, _++_}
 use native.Mathlib.Omega.{arith}
 use native.Mathlib.Numerals.{add-one}
+use borrow.Author.Tests.{leb-true, le-leb, lt-leb}
 use lib.Dec.{leb, eqb}
 use lib.ListN.{length, getD, take, drop}
 use lib.Seq.{sets, drop-cons, length-take-le}
@@ -13,7 +14,6 @@ use Rattle.laws.specs.Merging.{region}
 use Rattle.laws.specs.Lists.{add, elem}
 use Rattle.laws.proofs.Ascending.{Asc}
 use Rattle.laws.proofs.Tests.{tested, eqb-self}
-use borrow.Author.Tests.{leb-true, le-leb, lt-leb}
 use Rattle.laws.proofs.Stores.{sets-append, sets-self, drop-region, take-region, length-region}
 use Rattle.sorting.specs.Seat.{seatOf}
 use Rattle.sorting.proofs.Inserting.{seat-le}

@@ -11,11 +11,11 @@ use lib.ListN.{length, getD, take, length-append, List·getD-append}
 use lib.Seq.{sets, length-sets, length-take-le, take-take, getD-take, drop-at, take-at, drop-append-add}
 use Rattle.laws.specs.Merging.{region}
 use Rattle.laws.specs.Lists.{each, upFrom}
-use Rattle.counting.specs.Counts.{times, below}
 use Rattle.laws.proofs.Tests.{tested}
 use Rattle.laws.proofs.ListLaws.{each-append, upFrom-snoc}
-use Rattle.counting.proofs.CountLaws.{numbered, length-numbered, below-suc, below-mono, below-zero, below-length}
 use Rattle.laws.proofs.Stores.{take-before, getD-within, region-take, region-within}
+use Rattle.counting.specs.Counts.{times, below}
+use Rattle.counting.proofs.CountLaws.{numbered, length-numbered, below-suc, below-mono, below-zero, below-length}
 use Rattle.index.specs.declared.Places.{Places}
 use Rattle.index.specs.Faces.{input, base, wordsOf, facesWith, offsetsOf, indexOf, Laid, Room, Indexed}
 use Rattle.index.specs.Steps.{entriesTo, pick}

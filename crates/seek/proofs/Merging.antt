@@ -7,18 +7,18 @@ use mathlib.Core.List.{List, [], _∷_, map}
 use native.Mathlib.Omega.{arith}
 use native.Mathlib.Numerals.{add-one}
 use native.Mathlib.Nat.{add-zero, zero-add}
+use borrow.Author.Tests.{leb-true, le-leb, lt-ltb, eqb-true, ne-eqb}
 use lib.Dec.{leb, eqb, leb·zero}
 use lib.ListN.{length, getD, take, drop, length-map, List·getD-map}
 use lib.Seq.{sets, length-sets, drop-drop}
 use Rattle.laws.specs.Merging.{region}
 use Rattle.laws.specs.Lists.{keep, upFrom, elem}
-use Rattle.counting.specs.Counts.{times, below}
 use Rattle.laws.proofs.Ascending.{Asc, elem-keep, asc-keep, asc-upFrom, elem-upFrom, keep-cong, keep-none, head-in, first-in, first-low, from-next}
 use Rattle.laws.proofs.Tests.{tested, split, eqb-self, and-parts, both-ways}
-use borrow.Author.Tests.{leb-true, le-leb, lt-ltb, eqb-true, ne-eqb}
-use Rattle.counting.proofs.CountLaws.{numbered, length-numbered, below-suc}
 use Rattle.laws.proofs.ListLaws.{getD-any}
 use Rattle.laws.proofs.Stores.{getD-within}
+use Rattle.counting.specs.Counts.{times, below}
+use Rattle.counting.proofs.CountLaws.{numbered, length-numbered, below-suc}
 use Rattle.index.specs.declared.Places.{Places}
 use Rattle.index.specs.Faces.{input, nodesOf, wordsOf, facesWith, Indexed}
 use Rattle.merge.specs.Runs.{rest, stands, next, Lowest}

@@ -7,9 +7,9 @@ use native.Mathlib.Nat.{add-zero}
 use lib.ListN.{length, getD}
 use lib.Seq.{sets, getD-take}
 use Rattle.laws.specs.Merging.{region}
+use Rattle.laws.proofs.Stores.{region-take}
 use Rattle.counting.specs.Counts.{below}
 use Rattle.counting.proofs.CountLaws.{below-length}
-use Rattle.laws.proofs.Stores.{region-take}
 use Rattle.index.specs.declared.Places.{Places}
 use Rattle.index.specs.Faces.{input, cellOf, startOf, nodesOf, wordsOf, Indexed}
 use Rattle.index.proofs.Entries.{read-start, start-le, words-long, nodes-long, node-at}

@@ -10,7 +10,6 @@ use lib.ListN.{length}
 use lib.Seq.{sets, length-sets}
 use Rattle.laws.specs.Merging.{region}
 use Rattle.laws.specs.Lists.{elem, add}
-use Rattle.triples.specs.Hits.{addAll, listed, Open, Added}
 use Rattle.laws.proofs.Ascending.{Asc, elem-add, asc-add, head-in}
 use Rattle.laws.proofs.Tests.{tested, or-cases, or-swap}
 use Rattle.laws.proofs.Stores.{region-same, sets-self, sets-over, length-region}
@@ -18,6 +17,7 @@ use Rattle.index.specs.declared.Places.{Places}
 use Rattle.index.specs.Faces.{input, base}
 use Rattle.seek.specs.Candidates.{Ready}
 use Rattle.seek.proofs.Searching.{base-same, input-same, ready-same}
+use Rattle.triples.specs.Hits.{addAll, listed, Open, Added}
 
 -- the members are those added and those there
 pub elem-addAll : (n : ℕ) (xs l : List ℕ) → elem n (addAll xs l) ≡ (elem n xs || elem n l)

@@ -5,19 +5,19 @@ use mathlib.Core.Logic.{_⊎_, inl, inr}
 use mathlib.Core.Bool.{Bool, true, false, _&&_, _||_, or-false, and-false, and-or-distrib-left}
 use mathlib.Core.List.{List, [], _∷_}
 use native.Mathlib.Omega.{arith}
+use borrow.Author.Tests.{leb-false, lt-leb}
 use lib.Dec.{leb, eqb, leb·suc-suc, leb·suc-zero, leb·zero}
 use lib.ListN.{length}
 use Rattle.laws.specs.Lists.{any, each, keep, upFrom, elem}
-use Rattle.triples.specs.Hits.{addAll, hit, hits3, hits2, hits1}
 use Rattle.laws.proofs.ListLaws.{any-append}
 use Rattle.laws.proofs.Tests.{tested}
-use borrow.Author.Tests.{leb-false, lt-leb}
 use Rattle.laws.proofs.Ascending.{elem-keep, asc-keep, asc-upFrom, asc-ext}
 use Rattle.index.specs.declared.Places.{Places}
 use Rattle.index.specs.Faces.{nodesOf}
 use Rattle.seek.specs.Candidates.{common, shares, candidates}
 use Rattle.seek.specs.Steps.{early}
 use Rattle.seek.proofs.Condition.{shares-early}
+use Rattle.triples.specs.Hits.{addAll, hit, hits3, hits2, hits1}
 use Rattle.triples.proofs.Adds.{elem-addAll, asc-addAll}
 
 -- ---- tests

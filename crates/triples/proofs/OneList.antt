@@ -5,23 +5,23 @@ use mathlib.Core.Logic.{_⊎_, inl, inr, ⊎-elim}
 use mathlib.Core.Bool.{Bool, true, false, _&&_, _||_, false≢true, or-false}
 use mathlib.Core.List.{List, [], _∷_, _++_}
 use native.Mathlib.Omega.{arith}
+use borrow.Author.Tests.{ltb-true, eqb-true}
 use lib.Dec.{leb, ltb, eqb}
 use lib.ListN.{length, getD}
 use lib.Seq.{getD-take, length-take-le}
 use Rattle.laws.specs.Lists.{onlyIf, keep, upFrom, elem}
 use Rattle.laws.specs.Merging.{region}
-use Rattle.counting.specs.Counts.{times, below}
 use Rattle.laws.proofs.Tests.{tested, or-cases, and-parts}
-use borrow.Author.Tests.{ltb-true, eqb-true}
-use Rattle.counting.proofs.CountLaws.{below-suc}
 use Rattle.laws.proofs.Stores.{getD-region, length-region}
 use Rattle.laws.proofs.Ascending.{elem-keep, elem-upFrom}
+use Rattle.counting.specs.Counts.{times, below}
+use Rattle.counting.proofs.CountLaws.{below-suc}
 use Rattle.index.specs.declared.Places.{Places}
 use Rattle.index.specs.Faces.{input, base, nodesOf, wordsOf, facesWith}
 use Rattle.merge.specs.Runs.{rest}
+use Rattle.ascending.proofs.Adding.{getD-in}
 use Rattle.seek.specs.Candidates.{Ready}
 use Rattle.seek.specs.Steps.{early}
-use Rattle.ascending.proofs.Adding.{getD-in}
 use Rattle.seek.proofs.Read.{below-words}
 use Rattle.seek.proofs.Searching.{input-base}
 use Rattle.triples.specs.Hits.{hit, hits3}

@@ -7,11 +7,11 @@ use mathlib.Core.Bool.{Bool, true, false≢true}
 use mathlib.Core.List.{List, [], _∷_, _++_}
 use native.Mathlib.Omega.{arith}
 use native.Mathlib.Numerals.{add-one}
+use borrow.Author.Tests.{ltb-true}
 use lib.Dec.{leb, ltb, eqb}
 use lib.ListN.{length, getD, take, drop}
 use lib.Seq.{getD-take, drop-cons, length-take-le}
 use Rattle.laws.specs.Lists.{each, keep, upFrom, elem}
-use borrow.Author.Tests.{ltb-true}
 use Rattle.laws.proofs.ListLaws.{any-append}
 use Rattle.laws.proofs.Tests.{or-cases, and-parts}
 use Rattle.laws.proofs.Stores.{getD-region}

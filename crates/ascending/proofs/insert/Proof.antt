@@ -1,21 +1,21 @@
 -- `ascending::insert` meets its contract. Found, nothing changes (`add-there`); else the words from the seat on move up (`moved-up`).
+use Prim.Native.Nat.{ℕ, suc, _≤_, _<_}
 use mathlib.Core.Path.{_≡_, sym, ap, _∙_, subst}
 use mathlib.Core.List.{_∷_}
-use Prim.Native.Nat.{ℕ, suc, _≤_, _<_}
+use mathlib.Core.Logic.{⊎-elim, _≢_}
 use native.Mathlib.Omega.{arith}
 use borrow.Author.Needs.{needs}
 use lib.Dec.{leb}
 use lib.ListN.{length, getD, take, drop, length-take, length-drop, length-append}
 use lib.Seq.{sets}
-use Rattle.ascending.proofs.insert.Statement.{statement}
-use Rattle.ascending.proofs.insert.Tie as tie
-use Rattle.ascending.proofs.Adding.{add-there, add-new, moved-up}
-use Rattle.sorting.specs.Seat.{seatOf}
-use Rattle.sorting.proofs.Inserting.{seat-le}
-use Rattle.laws.proofs.Stores.{getD-region, length-region, sets-self}
 use Rattle.laws.specs.Merging.{region}
 use Rattle.laws.specs.Lists.{add}
-use mathlib.Core.Logic.{⊎-elim, _≢_}
+use Rattle.laws.proofs.Stores.{getD-region, length-region, sets-self}
+use Rattle.sorting.specs.Seat.{seatOf}
+use Rattle.sorting.proofs.Inserting.{seat-le}
+use Rattle.ascending.proofs.Adding.{add-there, add-new, moved-up}
+use Rattle.ascending.proofs.insert.Statement.{statement}
+use Rattle.ascending.proofs.insert.Tie as tie
 
 -- the seat is within the list
 seated : (c : tie.After-seat) → c .seat .result ≤ c .before .before .before .args .n

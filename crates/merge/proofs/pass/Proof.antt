@@ -1,22 +1,22 @@
 -- `merge::pass` meets its contract. The first i runs are passed: their places are stored, the others as before.
+use Prim.Native.Nat.{ℕ, _+_, _-_, _≤_}
 use mathlib.Core.Path.{_≡_, refl, sym, ap, _∙_}
 use mathlib.Core.List.{List, [], _∷_, _++_, map, map-append}
-use Prim.Native.Nat.{ℕ, _+_, _-_, _≤_}
+use mathlib.Core.Bool.{Bool, true, false, cond}
 use native.Mathlib.Omega.{arith}
 use native.Mathlib.Numerals.{add-one}
+use native.Mathlib.Nat.{zero-add}
 use borrow.Author.Needs.{needs}
 use lib.ListN.{length, getD, set, length-append}
 use lib.Seq.{sets}
-use Rattle.merge.proofs.pass.Statement.{statement}
-use Rattle.merge.proofs.pass.Tie as tie
+use lib.Dec.{eqb}
 use Rattle.laws.specs.Lists.{keep, upFrom, onlyIf}
-use Rattle.merge.specs.Runs.{head, one, stands, next}
 use Rattle.laws.proofs.Stores.{sets-snoc, getD-after}
 use Rattle.laws.proofs.ListLaws.{upFrom-snoc, keep-append, keep-length, length-upFrom}
 use Rattle.counting.proofs.CountLaws.{length-numbered}
-use native.Mathlib.Nat.{zero-add}
-use lib.Dec.{eqb}
-use mathlib.Core.Bool.{Bool, true, false, cond}
+use Rattle.merge.specs.Runs.{head, one, stands, next}
+use Rattle.merge.proofs.pass.Statement.{statement}
+use Rattle.merge.proofs.pass.Tie as tie
 
 -- at most one
 one-le : (b : Bool) → one b ≤ 1

@@ -1,17 +1,17 @@
 -- `merge::places` meets its contract. The first i places are stored.
+use Prim.Native.Nat.{ℕ, _+_, _-_, _≤_, _<_}
 use mathlib.Core.Path.{_≡_, refl, sym, ap, _∙_}
 use mathlib.Core.List.{List, map}
-use Prim.Native.Nat.{ℕ, _+_, _-_, _≤_, _<_}
 use native.Mathlib.Omega.{arith}
+use native.Mathlib.Nat.{zero-add}
 use borrow.Author.Needs.{needs}
 use lib.ListN.{length, getD, take, set, length-map, List·getD-map}
 use lib.Seq.{sets, take-all}
+use Rattle.laws.specs.Merging.{region}
+use Rattle.laws.proofs.Stores.{sets-more, getD-region, length-region}
+use Rattle.laws.proofs.ListLaws.{getD-any}
 use Rattle.merge.proofs.places.Statement.{statement}
 use Rattle.merge.proofs.places.Tie as tie
-use Rattle.laws.proofs.Stores.{sets-more, getD-region, length-region}
-use Rattle.laws.specs.Merging.{region}
-use Rattle.laws.proofs.ListLaws.{getD-any}
-use native.Mathlib.Nat.{zero-add}
 
 -- one place more
 step : (base : List ℕ) (s k o x i : ℕ) (l : List ℕ) (m : ℕ) → i < k → s + k ≤ length base → m ≡ x + getD base (o + getD base (s + i) 0) 0

@@ -1,13 +1,13 @@
 -- `seek::bow_at` meets its contract. The two words are those that the definition reads.
-use Rattle.seek.proofs.Read.{read-cell, read-bow, long}
-use Rattle.index.specs.Faces.{input, cellOf}
-use lib.ListN.{getD}
-use lib.Dec.{eqb}
-use native.Mathlib.Omega.{arith}
 use Prim.Native.Nat.{ℕ, _+_, _<_}
 use mathlib.Core.Bool.{not}
 use mathlib.Core.Path.{_≡_, ap, _∙_}
+use native.Mathlib.Omega.{arith}
 use borrow.Author.Needs.{needs}
+use lib.ListN.{getD}
+use lib.Dec.{eqb}
+use Rattle.index.specs.Faces.{input, cellOf}
+use Rattle.seek.proofs.Read.{read-cell, read-bow, long}
 use Rattle.seek.proofs.bow_at.Statement.{statement}
 use Rattle.seek.proofs.bow_at.Tie as tie
 

@@ -1,11 +1,11 @@
 -- `seek::is_apart` meets its contract. One test after the other.
-use Rattle.seek.specs.Steps.{apart}
-use Rattle.seek.proofs.Read.{read-cell}
-use Rattle.index.specs.Faces.{input, cellOf}
-use borrow.Author.Tests.{le-ltb, lt-ltb, eq-eqb, ne-eqb}
 use mathlib.Core.Bool.{Bool, false, not}
 use mathlib.Core.Path.{_≡_, sym, ap, _∙_}
+use borrow.Author.Tests.{le-ltb, lt-ltb, eq-eqb, ne-eqb}
 use borrow.Author.Needs.{needs}
+use Rattle.index.specs.Faces.{input, cellOf}
+use Rattle.seek.specs.Steps.{apart}
+use Rattle.seek.proofs.Read.{read-cell}
 use Rattle.seek.proofs.is_apart.Statement.{statement}
 use Rattle.seek.proofs.is_apart.Tie as tie
 

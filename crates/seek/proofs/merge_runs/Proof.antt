@@ -1,26 +1,26 @@
 -- `seek::merge_runs` meets its contract. `Held`: the candidates below g are noted, and the runs stand at g. `took` takes g, `moved-on` goes to the next lowest.
+use Prim.Native.Nat.{ℕ, _+_, _-_, _≤_, _<_}
 use mathlib.Core.Path.{_≡_, refl, sym, ap, ap₂, _∙_, subst}
 use mathlib.Core.List.{List, [], _∷_, _++_, append-nil}
-use Prim.Native.Nat.{ℕ, _+_, _-_, _≤_, _<_}
 use native.Mathlib.Omega.{arith}
 use native.Mathlib.Numerals.{add-one}
+use native.Mathlib.Nat.{zero-add}
 use borrow.Author.Needs.{needs}
 use lib.ListN.{length, length-append}
 use lib.Seq.{sets, length-sets, length-take-le}
-use Rattle.seek.proofs.merge_runs.Statement.{statement}
-use Rattle.seek.proofs.merge_runs.Tie as tie
-use Rattle.seek.proofs.Merging.{no-lower, skipped, lowered}
-use Rattle.seek.proofs.Searching.{base-same, input-base, input-same, ready-same, upTo-length}
-use Rattle.seek.specs.Steps.{Runs, one, upTo}
-use Rattle.seek.specs.Candidates.{shares, candidates, Ready}
-use Rattle.merge.specs.Runs.{Ends, Lowest}
-use Rattle.index.specs.Faces.{input, base}
-use Rattle.index.specs.declared.Places.{Places}
+use Rattle.laws.specs.Lists.{keep, upFrom}
 use Rattle.laws.proofs.Ascending.{keep-skip}
 use Rattle.laws.proofs.Stores.{sets-append}
 use Rattle.laws.proofs.ListLaws.{keep-append, upFrom-snoc}
-use Rattle.laws.specs.Lists.{keep, upFrom}
-use native.Mathlib.Nat.{zero-add}
+use Rattle.index.specs.declared.Places.{Places}
+use Rattle.index.specs.Faces.{input, base}
+use Rattle.merge.specs.Runs.{Ends, Lowest}
+use Rattle.seek.specs.Steps.{Runs, one, upTo}
+use Rattle.seek.specs.Candidates.{shares, candidates, Ready}
+use Rattle.seek.proofs.Merging.{no-lower, skipped, lowered}
+use Rattle.seek.proofs.Searching.{base-same, input-base, input-same, ready-same, upTo-length}
+use Rattle.seek.proofs.merge_runs.Statement.{statement}
+use Rattle.seek.proofs.merge_runs.Tie as tie
 
 record Held (p : Places) (w : List ℕ) (lo k g n : ℕ) (from to v : List ℕ) : Type 0 where
   top : g ≤ p .faces

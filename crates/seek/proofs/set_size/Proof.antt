@@ -1,6 +1,6 @@
 -- `seek::set_size` meets its contract. The next start less the start is the set's length.
-use Rattle.seek.proofs.Read.{set-long}
 use borrow.Author.Needs.{needs}
+use Rattle.seek.proofs.Read.{set-long}
 use Rattle.seek.proofs.set_size.Statement.{statement}
 use Rattle.seek.proofs.set_size.Tie as tie
 

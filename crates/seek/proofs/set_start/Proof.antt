@@ -1,10 +1,10 @@
 -- `seek::set_start` meets its contract. The word is the start, and the set lies within the slice.
-use Rattle.index.proofs.Entries.{read-start}
-use Rattle.seek.proofs.Read.{set-fits}
-use native.Mathlib.Omega.{arith}
 use Prim.Native.Nat.{ℕ, _+_}
 use mathlib.Core.Path.{ap, _∙_}
+use native.Mathlib.Omega.{arith}
 use borrow.Author.Needs.{needs}
+use Rattle.index.proofs.Entries.{read-start}
+use Rattle.seek.proofs.Read.{set-fits}
 use Rattle.seek.proofs.set_start.Statement.{statement}
 use Rattle.seek.proofs.set_start.Tie as tie
 

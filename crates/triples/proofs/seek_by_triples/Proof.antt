@@ -1,21 +1,21 @@
 -- `triples::seek_by_triples` meets its contract. All triples of lo's nodes, and the law that their hits are the candidates (`equal`).
-use Rattle.triples.proofs.Equal.{equal}
-use Rattle.triples.specs.Hits.{hits1, Open, Added, Span, addAll}
-use Rattle.seek.proofs.Searching.{input-base, none-sought}
-use Rattle.seek.proofs.Read.{set-fits, set-there, read-node, node-low}
-use Rattle.seek.specs.Candidates.{candidates, Ready, Sought}
-use Rattle.merge.specs.Runs.{rest}
-use Rattle.index.specs.Faces.{input, base, startOf, nodesOf, Indexed}
-use Rattle.index.specs.declared.Places.{Places}
-use Rattle.laws.specs.Merging.{region}
-use lib.Seq.{sets, length-take-le}
-use lib.ListN.{length, getD}
-use native.Mathlib.Omega.{arith}
 use Prim.Native.Nat.{ℕ, _+_, _-_, _≤_, _<_}
 use mathlib.Core.List.{List, []}
 use mathlib.Core.Bool.{false≢true}
 use mathlib.Core.Path.{_≡_, sym, ap, ap₂, _∙_}
+use native.Mathlib.Omega.{arith}
 use borrow.Author.Needs.{needs}
+use lib.Seq.{sets, length-take-le}
+use lib.ListN.{length, getD}
+use Rattle.laws.specs.Merging.{region}
+use Rattle.index.specs.declared.Places.{Places}
+use Rattle.index.specs.Faces.{input, base, startOf, nodesOf, Indexed}
+use Rattle.merge.specs.Runs.{rest}
+use Rattle.seek.specs.Candidates.{candidates, Ready, Sought}
+use Rattle.seek.proofs.Searching.{input-base, none-sought}
+use Rattle.seek.proofs.Read.{set-fits, set-there, read-node, node-low}
+use Rattle.triples.specs.Hits.{hits1, Open, Added, Span, addAll}
+use Rattle.triples.proofs.Equal.{equal}
 use Rattle.triples.proofs.seek_by_triples.Statement.{statement}
 use Rattle.triples.proofs.seek_by_triples.Tie as tie
 

@@ -1,13 +1,13 @@
 -- `triples::shortest` meets its contract. Whichever is answered is one of the three.
-use Rattle.laws.specs.Lists.{elem}
-use Rattle.laws.proofs.Tests.{eqb-self}
-use Rattle.laws.proofs.Ascending.{head-in}
-use lib.Dec.{eqb}
 use Prim.Native.Nat.{ℕ}
 use mathlib.Core.List.{[], _∷_}
 use mathlib.Core.Bool.{Bool, true, false, _||_, or-true}
 use mathlib.Core.Path.{_≡_, ap, _∙_}
 use borrow.Author.Needs.{needs}
+use lib.Dec.{eqb}
+use Rattle.laws.specs.Lists.{elem}
+use Rattle.laws.proofs.Tests.{eqb-self}
+use Rattle.laws.proofs.Ascending.{head-in}
 use Rattle.triples.proofs.shortest.Statement.{statement}
 use Rattle.triples.proofs.shortest.Tie as tie
 
