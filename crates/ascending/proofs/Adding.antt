@@ -6,6 +6,7 @@ use mathlib.Core.Bool.{Bool, true, false, _||_}
 use mathlib.Core.List.{List, [], _∷_, _++_}
 use native.Mathlib.Omega.{arith}
 use native.Mathlib.Numerals.{add-one}
+use borrow.Author.Tests.{leb-true, le-leb, lt-leb}
 use lib.Dec.{leb, eqb}
 use lib.ListN.{length, getD, take, drop}
 use lib.Seq.{sets, drop-cons, length-take-le}
@@ -13,14 +14,15 @@ use Rattle.laws.specs.Merging.{region}
 use Rattle.laws.specs.Lists.{add, elem}
 use Rattle.laws.proofs.Ascending.{Asc}
 use Rattle.laws.proofs.Tests.{tested, eqb-self}
-use borrow.Author.Tests.{leb-true, le-leb, lt-leb}
 use Rattle.laws.proofs.Stores.{sets-append, sets-self, drop-region, take-region, length-region}
 use Rattle.sorting.specs.Seat.{seatOf}
 use Rattle.sorting.proofs.Inserting.{seat-le}
 
+-- what is left from i on begins with element i
 pub dropped : (l : List ℕ) (i : ℕ) → i < length l → drop i l ≡ getD l i 0 ∷ drop (i + 1) l
 dropped l i h = drop-cons l i 0 h ∙ ap (λ (k : ℕ). getD l i 0 ∷ drop k l) (sym (add-one i))
 
+-- an element is a member
 pub getD-in : (l : List ℕ) (j : ℕ) → j < length l → elem (getD l j 0) l ≡ true
 getD-in [] j h = absurd (omega arith)
 getD-in (x ∷ l) zero h = rw (eqb-self x)
@@ -30,6 +32,7 @@ getD-in (x ∷ l) (suc j) h = go (eqb (getD l j 0) x) (getD-in l j (omega arith)
     go true e = refl
     go false e = e
 
+-- a number at its seat is not added
 pub add-there : (x : ℕ) (l : List ℕ) → seatOf x l < length l → getD l (seatOf x l) 0 ≡ x → add leb x l ≡ l
 add-there x [] h e = absurd (omega arith)
 add-there x (y ∷ l) h e = go (add-there x l) (tested (leb x y))
@@ -38,6 +41,7 @@ add-there x (y ∷ l) h e = go (add-there x l) (tested (leb x y))
     go ih (inl a) = let s : y ≡ x = rw a at e in rw (a, s, le-leb x x (omega arith))
     go ih (inr a) = let k : suc (seatOf x l) < suc (length l) = rw a at h in rw a (ap (λ (r : List ℕ). y ∷ r) (ih (omega arith) (rw a at e)))
 
+-- another goes there
 pub add-new : (x : ℕ) (l : List ℕ) → (seatOf x l < length l → getD l (seatOf x l) 0 ≢ x) → add leb x l ≡ take (seatOf x l) l ++ (x ∷ drop (seatOf x l) l)
 add-new x [] h = refl
 add-new x (y ∷ l) h = go (add-new x l) (tested (leb x y))
@@ -74,6 +78,7 @@ seat-behind x (y ∷ l) (suc m) a h b =
     let less : y < getD l m 0 = a .0 (getD l m 0) (getD-in l m (omega arith)) in
     rw (lt-leb x y (omega arith)) (omega arith)
 
+-- else it is not behind it
 pub seat-before : (x : ℕ) (l : List ℕ) (m : ℕ) → m < length l → x ≤ getD l m 0 → seatOf x l ≤ m
 seat-before x [] m h b = absurd (omega arith)
 seat-before x (y ∷ l) zero h b = rw (le-leb x y b) (omega arith)

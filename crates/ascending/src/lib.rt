@@ -1,8 +1,8 @@
 // An ascending list in a region of a lent slice.
 ghost use mathlib.Core.Path.{_≡_};
-ghost use Prim.Native.Nat.{ℕ, _+_, _≤_, _<_};
+ghost use Prim.Native.Nat.{_+_, _≤_, _<_};
 ghost use lib.Dec.{leb};
-ghost use lib.ListN.{length, getD};
+ghost use lib.ListN.{length};
 ghost use lib.Seq.{sets};
 ghost use Rattle.laws.specs.Merging.{region};
 ghost use Rattle.laws.specs.Lists.{elem, add, eql};

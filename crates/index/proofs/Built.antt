@@ -11,17 +11,18 @@ use lib.ListN.{length, getD, take, length-append, List·getD-append}
 use lib.Seq.{sets, length-sets, length-take-le, take-take, getD-take, drop-at, take-at, drop-append-add}
 use Rattle.laws.specs.Merging.{region}
 use Rattle.laws.specs.Lists.{each, upFrom}
-use Rattle.counting.specs.Counts.{times, below}
 use Rattle.laws.proofs.Tests.{tested}
 use Rattle.laws.proofs.ListLaws.{each-append, upFrom-snoc}
-use Rattle.counting.proofs.CountLaws.{numbered, length-numbered, below-suc, below-mono, below-zero, below-length}
 use Rattle.laws.proofs.Stores.{take-before, getD-within, region-take, region-within}
+use Rattle.counting.specs.Counts.{times, below}
+use Rattle.counting.proofs.CountLaws.{numbered, length-numbered, below-suc, below-mono, below-zero, below-length}
 use Rattle.index.specs.declared.Places.{Places}
 use Rattle.index.specs.Faces.{input, base, wordsOf, facesWith, offsetsOf, indexOf, Laid, Room, Indexed}
 use Rattle.index.specs.Steps.{entriesTo, pick}
 use Rattle.index.proofs.Placing.{nodes}
 use Rattle.index.proofs.Entries.{words-long, entries-all, picked-all, upFrom-split}
 
+-- as many faces are picked at n as n stands among the nodes
 pick-long : (n : ℕ) (E : List (ℕ × ℕ)) → length (pick n E) ≡ times n (nodes E)
 unfolding pick
 pick-long n [] = refl
@@ -38,9 +39,11 @@ module _ (p : Places) (t : List ℕ) (laid : Laid p t) where
   abbrev f : ℕ → List ℕ
   f = facesWith p t
 
+  -- a list is as long as its node is frequent
   pub list-long : (n : ℕ) → length (f n) ≡ times n S
   list-long n = ap length (sym (picked-all p t laid n)) ∙ pick-long n (entriesTo p t (p .faces)) ∙ ap (times n) (entries-all p t laid)
 
+  -- the lists of the nodes below n
   lists-long : (n : ℕ) → length (each f (upFrom 0 n)) ≡ below n S
   lists-long zero = sym (below-zero S)
   lists-long (suc n) =
@@ -75,35 +78,44 @@ module _ (p : Places) (w : List ℕ) (laid : Laid p (input p w)) (room : Room p 
   abbrev v : List ℕ
   v = sets w o ys
 
+  -- how many offsets there are
   offsets-long : length (offsetsOf p t₀) ≡ p .nodes + 2
   unfolding offsetsOf
   offsets-long = length-numbered (λ n. below n (wordsOf p t₀)) (p .nodes + 2)
 
+  -- the index has room
   index-long : length (indexOf p t₀) ≤ p .words
   unfolding indexOf
   index-long = omega (arith, lists-long p t₀ laid (p .nodes), below-length (p .nodes) (wordsOf p t₀), words-long p t₀ laid)
 
+  -- and is as long as all lists
   index-exact : length (indexOf p t₀) ≡ below (p .nodes) (wordsOf p t₀)
   unfolding indexOf
   index-exact = lists-long p t₀ laid (p .nodes)
 
+  -- both fit
   all-long : (length ys ≡ p .nodes + 2 + length (indexOf p t₀)) × (o + length ys ≤ length w)
   all-long =
       let e : length ys ≡ p .nodes + 2 + length (indexOf p t₀) = length-append (offsetsOf p t₀) (indexOf p t₀) ∙ omega (arith, offsets-long) in
       (e, omega (arith, index-long, room .index-at, room .found-at, room .ends))
 
+  -- what a search reads is whole
   base-long : length (base p v) ≡ p .found
   base-long = length-take-le (p .found) v (omega (arith, length-sets w o ys, room .ends))
 
+  -- the index lies below `found`
   pub below-found : o ≤ p .found
   below-found = omega (arith, room .index-at, room .found-at)
 
-  pub same-input : input p v ≡ t₀
+  -- the input stays
+  same-input : input p v ≡ t₀
   same-input = take-before o w o ys (omega arith)
 
+  -- also in what a search reads
   pub input-is : input p (base p v) ≡ t₀
   input-is = take-take o (p .found) v below-found ∙ same-input
 
+  -- an offset, read
   offset-there : (n : ℕ) → n < p .nodes + 2 → getD (base p v) (o + n) 0 ≡ below n (wordsOf p t₀)
   unfolding offsetsOf
   offset-there n h =
@@ -112,6 +124,7 @@ module _ (p : Places) (w : List ℕ) (laid : Laid p (input p w)) (room : Room p 
       ∙ List·getD-append (offsetsOf p t₀) (indexOf p t₀) 0 n (omega (arith, offsets-long))
       ∙ numbered (λ k. below k (wordsOf p t₀)) (p .nodes + 2) n h
 
+  -- a list, read
   part-there : (n : ℕ) → n < p .nodes → region (p .index + below n (wordsOf p t₀)) (times n (wordsOf p t₀)) (base p v) ≡ facesWith p t₀ n
   part-there n h =
       let S₀ : List ℕ = wordsOf p t₀ in
@@ -126,6 +139,7 @@ module _ (p : Places) (w : List ℕ) (laid : Laid p (input p w)) (room : Room p 
       ∙ ap (take (times n S₀)) (drop-append-add (offsetsOf p t₀) (indexOf p t₀) (below n S₀))
       ∙ list-part p t₀ laid n h
 
+  -- all that a search asks
   pub built : Indexed p (base p v)
   built = record {
     laid = subst (Laid p) (sym input-is) laid;

@@ -8,8 +8,8 @@ use lib.Dec.{eqb}
 use lib.ListN.{length, getD, take}
 use Rattle.laws.specs.Merging.{region}
 use Rattle.laws.specs.Lists.{each, keep, upFrom, elem}
-use Rattle.counting.specs.Counts.{times, below}
 use Rattle.laws.proofs.Ascending.{Asc}
+use Rattle.counting.specs.Counts.{times, below}
 use Rattle.index.specs.declared.Places.{Places}
 
 abbrev pub input : Places → List ℕ → List ℕ

@@ -1,7 +1,7 @@
 // A merge of up to 64 runs of a slice, the places in local arrays.
 ghost use mathlib.Core.Path.{_≡_};
 ghost use mathlib.Core.List.{map};
-ghost use Prim.Native.Nat.{ℕ, suc, _+_, _≤_, _<_, _^_};
+ghost use Prim.Native.Nat.{ℕ, _+_, _≤_, _<_, _^_};
 ghost use lib.ListN.{length, getD, set};
 ghost use lib.Seq.{sets};
 ghost use Rattle.laws.specs.Merging.{region};

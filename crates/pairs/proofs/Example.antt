@@ -1,7 +1,7 @@
 -- Document 01's example, computed: tetrahedron 4 5 6 8 (cell 0, faces 0 to 3) and hexahedron 0 to 7 (cell 1, faces 4 to 9).
 use Prim.Native.Nat.{ℕ}
 use mathlib.Core.Bool.{true}
-use mathlib.Core.List.{List, [], _∷_, _++_}
+use mathlib.Core.List.{List, [], _∷_}
 use mathlib.Core.Path.{_≡_, refl}
 use Rattle.index.specs.declared.Places.{Places}
 use Rattle.index.specs.Faces.{nodesOf, wordsOf, facesWith, offsetsOf}
@@ -27,6 +27,7 @@ third : candidates at input 3 ≡ 5 ∷ []
 unfolding candidates shares sharing common nodesOf
 third = refl
 
+-- face 4 has none
 fourth : candidates at input 4 ≡ []
 unfolding candidates shares sharing common nodesOf
 fourth = refl
@@ -36,14 +37,17 @@ barred-first : candidates at (1 ∷ 0 ∷ rest) 3 ≡ []
 unfolding candidates shares sharing common nodesOf
 barred-first = refl
 
+-- nor where the other is
 barred-second : candidates at (0 ∷ 1 ∷ rest) 3 ≡ []
 unfolding candidates shares sharing common nodesOf
 barred-second = refl
 
+-- the offsets of the nodes
 offsets : offsetsOf at input ≡ 0 ∷ 3 ∷ 6 ∷ 9 ∷ 12 ∷ 18 ∷ 24 ∷ 30 ∷ 33 ∷ 36 ∷ 36 ∷ []
 unfolding offsetsOf wordsOf
 offsets = refl
 
+-- the work of both ways, and which is taken
 works : (nodeWork at input ≡ 63) × (tripleWork at input ≡ 28) × (byNodes at input ≡ true)
 unfolding byNodes nodeWork tripleWork facesWith nodesOf
 works = (refl, refl, refl)

@@ -1,7 +1,7 @@
 -- The condition of a candidate, in the order in which it is tested.
 use Prim.Native.Nat.{ℕ}
-use mathlib.Core.Path.{_≡_, sym, ap, _∙_}
-use mathlib.Core.Bool.{Bool, true, false, not, _&&_, and-assoc, and-false}
+use mathlib.Core.Path.{_≡_, sym}
+use mathlib.Core.Bool.{true, false, not, _&&_, and-assoc, and-false}
 use mathlib.Core.List.{List, []}
 use lib.Dec.{ltb, eqb, leb}
 use lib.ListN.{length}
@@ -23,6 +23,7 @@ module _ (p : Places) (t : List ℕ) (lo : ℕ) where
   unfolding shares
   never e g = rw e (rw (and-false (ltb lo g && not (eqb (cellOf p t lo) (cellOf p t g)))))
 
+  -- so the list is empty
   pub barred : bowOf p t (cellOf p t lo) ≡ true → candidates p t lo ≡ []
   unfolding candidates
   barred e = keep-none (shares p t lo) (upFrom 0 (p .faces)) (λ g h. never e g)

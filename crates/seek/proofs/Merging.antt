@@ -7,18 +7,18 @@ use mathlib.Core.List.{List, [], _∷_, map}
 use native.Mathlib.Omega.{arith}
 use native.Mathlib.Numerals.{add-one}
 use native.Mathlib.Nat.{add-zero, zero-add}
-use lib.Dec.{leb, ltb, eqb, leb·zero}
+use borrow.Author.Tests.{leb-true, le-leb, lt-ltb, eqb-true, ne-eqb}
+use lib.Dec.{leb, eqb, leb·zero}
 use lib.ListN.{length, getD, take, drop, length-map, List·getD-map}
 use lib.Seq.{sets, length-sets, drop-drop}
 use Rattle.laws.specs.Merging.{region}
 use Rattle.laws.specs.Lists.{keep, upFrom, elem}
-use Rattle.counting.specs.Counts.{times, below}
 use Rattle.laws.proofs.Ascending.{Asc, elem-keep, asc-keep, asc-upFrom, elem-upFrom, keep-cong, keep-none, head-in, first-in, first-low, from-next}
 use Rattle.laws.proofs.Tests.{tested, split, eqb-self, and-parts, both-ways}
-use borrow.Author.Tests.{leb-true, le-leb, lt-ltb, eqb-true, ne-eqb}
-use Rattle.counting.proofs.CountLaws.{numbered, length-numbered, below-suc}
 use Rattle.laws.proofs.ListLaws.{getD-any}
 use Rattle.laws.proofs.Stores.{getD-within}
+use Rattle.counting.specs.Counts.{times, below}
+use Rattle.counting.proofs.CountLaws.{numbered, length-numbered, below-suc}
 use Rattle.index.specs.declared.Places.{Places}
 use Rattle.index.specs.Faces.{input, nodesOf, wordsOf, facesWith, Indexed}
 use Rattle.merge.specs.Runs.{rest, stands, next, Lowest}
@@ -29,6 +29,7 @@ use Rattle.seek.proofs.Read.{below-words, node-low}
 
 -- ---- lists
 
+-- what a beginning has behind its first
 tail-of : (m : ℕ) (d : List ℕ) (y : ℕ) (l : List ℕ) → take (suc m) d ≡ y ∷ l → take m (drop 1 d) ≡ l
 tail-of m [] y l e = absurd (let z : _≡_ {A = ℕ} 0 1 = ap length e ∙ absurd-length e in omega arith)
   where
@@ -36,6 +37,7 @@ tail-of m [] y l e = absurd (let z : _≡_ {A = ℕ} 0 1 = ap length e ∙ absur
     absurd-length e = let z : 0 ≡ suc (length l) = ap length e in omega arith
 tail-of m (z ∷ d) y l e = cc
 
+-- a run behind its first number
 rest-tail : (x e : ℕ) (b : List ℕ) (y : ℕ) (l : List ℕ) → rest x e b ≡ y ∷ l → rest (x + 1) e b ≡ l
 rest-tail x e b y l h = ⊎-elim there none (split x e)
   where
@@ -44,16 +46,19 @@ rest-tail x e b y l h = ⊎-elim there none (split x e)
         let s : e - x ≡ suc (e - (x + 1)) = omega arith in
         ap (take (e - (x + 1))) (sym (drop-drop 1 x b)) ∙ tail-of (e - (x + 1)) (drop x b) y l (ap (λ (k : ℕ). take k (drop x b)) (sym s) ∙ h)
 
+    -- an empty run has no first
     none : e ≤ x → rest (x + 1) e b ≡ l
     none o =
         let s : e - x ≡ 0 = omega arith in
         let z : 0 ≡ suc (length l) = ap (λ (k : ℕ). length (take k (drop x b))) (sym s) ∙ ap length h in
         absurd (omega arith)
 
+-- a list's first is at least m where all are
 first-ge : (l : List ℕ) (d m : ℕ) → m ≤ d → ((y : ℕ) → elem y l ≡ true → m ≤ y) → m ≤ getD l 0 d
 first-ge [] d m h f = h
 first-ge (x ∷ l) d m h f = f x (head-in x l)
 
+-- what holds at each place holds of each member
 pub all-of : (P : ℕ → Type 0) (l : List ℕ) → ((i : ℕ) → i < length l → P (getD l i 0)) → (x : ℕ) → elem x l ≡ true → P x
 all-of P [] f x e = absurd (false≢true e)
 all-of P (y ∷ l) f x e = go (all-of P l (λ i b. f (suc i) (omega arith)) x) (tested (eqb x y))
@@ -74,6 +79,7 @@ count-places s q (x ∷ l) o f = go (count-places s q l (suc o) (λ i b. let e :
     go ih (inl a) = rw (s-is, a) (ap suc ih)
     go ih (inr a) = rw (s-is, a) ih
 
+-- every number is at least 0
 keep-all : (l : List ℕ) → keep (leb 0) l ≡ l
 keep-all [] = refl
 keep-all (x ∷ l) = rw (leb·zero x) (ap (λ (r : List ℕ). x ∷ r) (keep-all l))
@@ -84,10 +90,12 @@ module _ (p : Places) (b : List ℕ) where
   abbrev t : List ℕ
   t = input p b
 
+  -- the faces of a node ascend
   pub asc-faces : (n : ℕ) → Asc (facesWith p t n)
   unfolding facesWith
   asc-faces n = asc-keep (λ g. elem n (nodesOf p t g)) (upFrom 0 (p .faces)) (asc-upFrom 0 (p .faces))
 
+  -- a face is in a node's list where it has the node
   pub has : (n g : ℕ) → g < p .faces → elem g (facesWith p t n) ≡ elem n (nodesOf p t g)
   unfolding facesWith
   has n g h =
@@ -116,6 +124,7 @@ module _ (p : Places) (b : List ℕ) where
       abbrev at-to : List ℕ
       at-to = map (λ n. p .index + below (n + 1) (wordsOf p t)) ns
 
+      -- the place of run i
       put : (f : ℕ → ℕ) (l : List ℕ) → length l ≡ 64 → (i : ℕ) → i < length ns → getD (sets l 0 (map f ns)) i 0 ≡ f (getD ns i 0)
       put f l e i h =
           ap (λ (j : ℕ). getD (sets l 0 (map f ns)) j 0) (sym (zero-add i))
@@ -123,6 +132,7 @@ module _ (p : Places) (b : List ℕ) where
           ∙ getD-any (map f ns) i 0 (f 0) (omega (arith, length-map ns f))
           ∙ List·getD-map f ns i 0
 
+      -- the runs stand at their starts
       pub opened : Runs p b lo (length ns) 0 (sets from 0 at-from) (sets to 0 at-to)
       opened = record {
         count = refl;
@@ -137,6 +147,7 @@ module _ (p : Places) (b : List ℕ) where
       }
 
     module _ (k g : ℕ) (from to : List ℕ) (r : Runs p b lo k g from to) where
+      -- run i has g next where g is in its list
       stands-is : (i : ℕ) → i < k → stands b from to g i ≡ elem g (F i)
       stands-is i h = ap (λ (l : List ℕ). eqb (getD l 0 (g + 1)) g) (r .run i h) ∙ go (tested (elem g (F i)))
         where
@@ -158,12 +169,14 @@ module _ (p : Places) (b : List ℕ) where
       abbrev from′ : List ℕ
       from′ = sets from 0 (map (next b from to g) (upFrom 0 k))
 
+      -- the place of run i is moved
       moved : (i : ℕ) → i < k → getD from′ i 0 ≡ next b from to g i
       moved i h =
           ap (λ (j : ℕ). getD from′ j 0) (sym (zero-add i))
           ∙ getD-within from 0 (map (next b from to g) (upFrom 0 k)) i 0 (omega (arith, length-numbered (next b from to g) k)) (omega (arith, length-numbered (next b from to g) k, r .wide, r .ends .0))
           ∙ numbered (next b from to g) k i h
 
+      -- and the run goes on behind g
       run-next : (i : ℕ) → i < k → (elem g (F i) ≡ true) ⊎ (elem g (F i) ≡ false) → rest (next b from to g i) (getD to i 0) b ≡ keep (leb (suc g)) (F i)
       run-next i h (inl a) =
           rw (stands-is i h ∙ a)
@@ -175,6 +188,7 @@ module _ (p : Places) (b : List ℕ) where
           (λ e. le-leb (suc g) y (let d : y ≢ g = λ (s : y ≡ g). false≢true (sym a ∙ ap (λ (j : ℕ). elem j (F i)) (sym s) ∙ f) in omega (arith, leb-true g y e)))
           (λ e. le-leb g y (omega (arith, leb-true (suc g) y e)))))
 
+      -- all runs do
       pub passed : Runs p b lo k (g + 1) from′ to
       passed = record {
         count = r .count;

@@ -10,6 +10,26 @@ ghost use Rattle.index.specs.Faces.{input, base, cellOf, bowOf, startOf, nodesO
 ghost use Rattle.seek.specs.Candidates.{common, shares, Ready, Sought};
 ghost use Rattle.seek.specs.Steps.{Runs, one, apart};
 
+// Where the node set of face g starts, and how many nodes it has.
+pub fn set_start(base: &[u32], at: index::Places, g: usize) -> usize
+    requires { ⌜ Indexed at (now base) ⌝ }
+    requires { ⌜ g < at .faces ⌝ }
+    ensures { λ r. ⌜ r ≡ at .sets + startOf at (input at (now (base .entry))) g ⌝ }
+{
+    let k = at.starts + g;
+    at.sets + counting::wide(base[k])
+}
+
+pub fn set_size(base: &[u32], at: index::Places, g: usize) -> usize
+    requires { ⌜ Indexed at (now base) ⌝ }
+    requires { ⌜ g < at .faces ⌝ }
+    ensures { λ r. ⌜ r ≡ length (nodesOf at (input at (now (base .entry))) g) ⌝ }
+{
+    let k = at.starts + g;
+    let a = counting::wide(base[k]);
+    counting::wide(base[k + 1]) - a
+}
+
 // Opens a run for each node of face lo: its list in the index. Answers how many.
 fn open_runs(
     base: &[u32],
@@ -24,10 +44,8 @@ fn open_runs(
     ensures { λ r. ⌜ now (from .exit) ≡ sets (now (from .entry)) 0 (map (λ n. at .index + below n (wordsOf at (input at (now (base .entry))))) (nodesOf at (input at (now (base .entry))) lo)) ⌝ }
     ensures { λ r. ⌜ now (to .exit) ≡ sets (now (to .entry)) 0 (map (λ n. at .index + below (n + 1) (wordsOf at (input at (now (base .entry))))) (nodesOf at (input at (now (base .entry))) lo)) ⌝ }
 {
-    let start = at.starts + lo;
-    let a = counting::wide(base[start]);
-    let k = counting::wide(base[start + 1]) - a;
-    let s = at.sets + a;
+    let s = set_start(base, at, lo);
+    let k = set_size(base, at, lo);
     let o = at.offsets;
     let x = at.index;
     merge::places(base, s, k, o, x, from);
@@ -63,26 +81,6 @@ pub fn is_apart(base: &[u32], at: index::Places, lo: usize, g: usize) -> bool
         return false;
     }
     !bow_at(base, at, g)
-}
-
-// Where the node set of face g starts, and how many nodes it has.
-pub fn set_start(base: &[u32], at: index::Places, g: usize) -> usize
-    requires { ⌜ Indexed at (now base) ⌝ }
-    requires { ⌜ g < at .faces ⌝ }
-    ensures { λ r. ⌜ r ≡ at .sets + startOf at (input at (now (base .entry))) g ⌝ }
-{
-    let k = at.starts + g;
-    at.sets + counting::wide(base[k])
-}
-
-pub fn set_size(base: &[u32], at: index::Places, g: usize) -> usize
-    requires { ⌜ Indexed at (now base) ⌝ }
-    requires { ⌜ g < at .faces ⌝ }
-    ensures { λ r. ⌜ r ≡ length (nodesOf at (input at (now (base .entry))) g) ⌝ }
-{
-    let k = at.starts + g;
-    let a = counting::wide(base[k]);
-    counting::wide(base[k + 1]) - a
 }
 
 // The node sets of two faces are equal.

@@ -1,17 +1,17 @@
 -- A loop over the words from s to e that adds a piece for each: G of the words is the pieces one after the other, F the piece of a word and
 -- those behind it.
 use Prim.Native.Nat.{ℕ, suc, _+_, _-_, _≤_, _<_}
-use mathlib.Core.Path.{_≡_, refl, sym, ap, ap₂, _∙_, subst}
+use mathlib.Core.Path.{_≡_, sym, ap, ap₂, _∙_, subst}
 use mathlib.Core.Logic.{⊎-elim}
-use mathlib.Core.Bool.{Bool, true, _||_, false≢true}
+use mathlib.Core.Bool.{Bool, true, false≢true}
 use mathlib.Core.List.{List, [], _∷_, _++_}
 use native.Mathlib.Omega.{arith}
 use native.Mathlib.Numerals.{add-one}
+use borrow.Author.Tests.{ltb-true}
 use lib.Dec.{leb, ltb, eqb}
 use lib.ListN.{length, getD, take, drop}
 use lib.Seq.{getD-take, drop-cons, length-take-le}
 use Rattle.laws.specs.Lists.{each, keep, upFrom, elem}
-use borrow.Author.Tests.{ltb-true}
 use Rattle.laws.proofs.ListLaws.{any-append}
 use Rattle.laws.proofs.Tests.{or-cases, and-parts}
 use Rattle.laws.proofs.Stores.{getD-region}
@@ -23,36 +23,44 @@ use Rattle.seek.proofs.Merging.{all-of}
 use Rattle.triples.specs.Hits.{hit, hits3, hits2, hits1, Open, Added, Span}
 use Rattle.triples.proofs.Adds.{Faces, Prog, prog-start, prog-open, prog-base, prog-input, prog-length, prog-step, prog-end}
 
+-- the words from i on begin with word i
 pub rest-cons : (i e : ℕ) (b : List ℕ) → i < e → e ≤ length b → rest i e b ≡ getD b i 0 ∷ rest (i + 1) e b
 rest-cons i e b h k =
     let s : e - i ≡ suc (e - (i + 1)) = omega arith in
     ap₂ (λ (m : ℕ) (l : List ℕ). take m l) s (drop-cons b i 0 (omega arith) ∙ ap (λ (j : ℕ). getD b i 0 ∷ drop j b) (sym (add-one i)))
 
+-- none are left at the end
 rest-none : (i e : ℕ) (b : List ℕ) → e ≤ i → rest i e b ≡ []
 rest-none i e b h = let s : e - i ≡ 0 = omega arith in ap (λ (m : ℕ). take m (drop i b)) s
 
 -- ---- all that is added are faces
 
+-- two lists of faces
 faces-append : (p : Places) (a b : List ℕ) → Faces p a → Faces p b → Faces p (a ++ b)
 faces-append p a b f g x e = ⊎-elim (f x) (g x) (or-cases (elem x a) (elem x b) (sym (any-append (eqb x) a b) ∙ e))
 
+-- lists of faces one after the other
 faces-each : (p : Places) (f : ℕ → List ℕ) → ((x : ℕ) → Faces p (f x)) → (l : List ℕ) → Faces p (each f l)
 faces-each p f h [] = λ x e. absurd (false≢true e)
 faces-each p f h (y ∷ l) = faces-append p (f y) (each f l) (h y) (faces-each p f h l)
 
+-- the hits of a triple
 faces-hits3 : (p : Places) (t : List ℕ) (lo a b c : ℕ) → Faces p (hits3 p t lo a b c)
 unfolding hits3
 faces-hits3 p t lo a b c x e =
     let u : elem x (upFrom 0 (p .faces)) ≡ true = and-parts (hit p t lo a b c x) (elem x (upFrom 0 (p .faces))) (sym (elem-keep x (hit p t lo a b c) (upFrom 0 (p .faces))) ∙ e) .1 in
     omega (arith, ltb-true x (0 + p .faces) (and-parts (leb 0 x) (ltb x (0 + p .faces)) (sym (elem-upFrom x 0 (p .faces)) ∙ u) .1))
 
+-- of two nodes with each of a list
 pub faces-pair : (p : Places) (t : List ℕ) (lo a b : ℕ) (l : List ℕ) → Faces p (each (hits3 p t lo a b) l)
 faces-pair p t lo a b l = faces-each p (hits3 p t lo a b) (faces-hits3 p t lo a b) l
 
+-- of a node with each two
 pub faces-node : (p : Places) (t : List ℕ) (lo a : ℕ) (l : List ℕ) → Faces p (hits2 p t lo a l)
 faces-node p t lo a [] = λ x e. absurd (false≢true e)
 faces-node p t lo a (b ∷ l) = faces-append p (each (hits3 p t lo a b) l) (hits2 p t lo a l) (faces-pair p t lo a b l) (faces-node p t lo a l)
 
+-- of each three
 pub faces-all : (p : Places) (t : List ℕ) (lo : ℕ) (l : List ℕ) → Faces p (hits1 p t lo l)
 faces-all p t lo [] = λ x e. absurd (false≢true e)
 faces-all p t lo (a ∷ l) = faces-append p (hits2 p t lo a l) (hits1 p t lo l) (faces-node p t lo a l) (faces-all p t lo l)
@@ -64,6 +72,7 @@ of-rest P s e b h f =
     (λ i k. let l : i < e - s = omega (arith, lib.ListN.length-take (e - s) (drop s b)) in
     subst P (sym (getD-region s (e - s) b i 0 l)) (f (s + i) (omega arith) (omega arith)))
 
+-- those that pass a test
 pub faces-kept : (p : Places) (q : ℕ → Bool) (l : List ℕ) → Faces p l → Faces p (keep q l)
 faces-kept p q l f x e = f x (and-parts (q x) (elem x l) (sym (elem-keep x q l) ∙ e) .1)
 
@@ -77,35 +86,45 @@ module _ (p : Places) (lo n : ℕ) (w : List ℕ) (op : Open p lo n w) (s e : �
   abbrev pub Held : ℕ → ℕ → List ℕ → Type 0
   Held i r v = Prog p n w (G (rest s e B)) (G (rest i e B)) r v
 
+  -- the words are there
   pub B-long : e ≤ length B
   B-long = omega (arith, length-take-le (p .found) w (omega (arith, op .ready .room)))
 
+  -- at the start all is to do
   pub held-start : Held s n w
   held-start = prog-start p lo n w op (G (rest s e B)) f
 
   module _ (i r : ℕ) (v : List ℕ) (h : Held i r v) where
+    -- more can be added
     pub held-open : Open p lo r v
     held-open = prog-open p lo n w op (G (rest s e B)) f (G (rest i e B)) r v h
 
+    -- what is read stays
     pub held-base : base p v ≡ base p w
     held-base = prog-base p lo n w op (G (rest s e B)) f (G (rest i e B)) r v h
 
+    -- and the input
     pub held-input : input p v ≡ input p w
     held-input = prog-input p lo n w op (G (rest s e B)) f (G (rest i e B)) r v h
 
+    -- and the length
     pub held-length : length v ≡ length w
     held-length = prog-length p lo n w op (G (rest s e B)) f (G (rest i e B)) r v h
 
+    -- word i is as at the start
     pub held-read : i < e → getD v i 0 ≡ getD B i 0
     held-read k = sym (getD-take (p .found) v i 0 (omega arith)) ∙ ap (λ (l : List ℕ). getD l i 0) held-base
 
+    -- the words behind are nodes
     pub held-span : (j : ℕ) → s ≤ j → Span p w s e → Span p v j e
     held-span j k sp = record { within = sp .within; known = λ m a b. subst (λ (l : List ℕ). getD l m 0 < p .nodes) (sym held-base) (sp .known m (omega arith) b) }
 
+    -- one piece is added
     pub held-next : i < e → (q : ℕ) (u : List ℕ) → Added p (F (getD B i 0) (rest (i + 1) e B)) r v q u → Held (i + 1) q u
     held-next k q u a =
         prog-step p lo n w op (G (rest s e B)) f (G (rest i e B)) r v h (F (getD B i 0) (rest (i + 1) e B)) (G (rest (i + 1) e B))
         (ap G (rest-cons i e B k B-long) ∙ cons (getD B i 0) (rest (i + 1) e B)) q u a
 
+    -- at the end all is added
     pub held-end : e ≤ i → Added p (G (rest s e B)) n w r v
     held-end k = prog-end p lo n w op (G (rest s e B)) f r v (subst (λ (l : List ℕ). Prog p n w (G (rest s e B)) l r v) (ap G (rest-none i e B k) ∙ nil) h)

@@ -1,9 +1,9 @@
 // Candidates of a face, by node triples.
 ghost use mathlib.Core.Path.{_≡_};
-ghost use mathlib.Core.Bool.{Bool, true};
+ghost use mathlib.Core.Bool.{true};
 ghost use mathlib.Core.List.{[], _∷_};
 ghost use Prim.Native.Nat.{ℕ, _+_, _≤_, _<_};
-ghost use lib.ListN.{length, getD};
+ghost use lib.ListN.{getD};
 ghost use Rattle.laws.specs.Lists.{onlyIf, each, keep, elem};
 ghost use Rattle.counting.specs.Counts.{times};
 ghost use Rattle.index.specs.Faces.{input, base, nodesOf, wordsOf, Indexed};

@@ -1,22 +1,22 @@
 -- `ascending::equal` meets its contract. The two runs are equal where what is left of them from i on is.
-use mathlib.Core.Path.{_≡_, refl, sym, ap, ap₂, _∙_}
+use Prim.Native.Nat.{ℕ, _+_, _-_, _≤_, _<_}
+use mathlib.Core.Path.{_≡_, sym, ap, ap₂, _∙_}
 use mathlib.Core.Logic.{⊎-elim, _≢_}
 use mathlib.Core.Bool.{Bool, false, _&&_}
 use mathlib.Core.List.{List}
-use Prim.Native.Nat.{ℕ, _+_, _-_, _≤_, _<_}
 use native.Mathlib.Omega.{arith}
 use borrow.Author.Needs.{needs}
 use borrow.Author.Tests.{eq-eqb, ne-eqb}
 use lib.Dec.{eqb}
 use lib.ListN.{length, getD, drop, drop-of-length-le}
-use Rattle.ascending.proofs.equal.Statement.{statement}
-use Rattle.ascending.proofs.equal.Tie as tie
-use Rattle.ascending.proofs.Adding.{dropped}
+use Rattle.laws.specs.Lists.{eql}
+use Rattle.laws.specs.Merging.{region}
 use Rattle.laws.proofs.ListLaws.{eql-true}
 use Rattle.laws.proofs.Stores.{getD-region, length-region}
 use Rattle.laws.proofs.Tests.{tested}
-use Rattle.laws.specs.Lists.{eql}
-use Rattle.laws.specs.Merging.{region}
+use Rattle.ascending.proofs.Adding.{dropped}
+use Rattle.ascending.proofs.equal.Statement.{statement}
+use Rattle.ascending.proofs.equal.Tie as tie
 
 -- lists of different lengths are unequal
 unlike : (a b : List ℕ) → length a ≢ length b → eql a b ≡ false

@@ -1,21 +1,22 @@
 -- `ascending::has` meets its contract. v is among all words where it is among those from i on.
+use Prim.Native.Nat.{ℕ, _+_, _-_, _≤_, _<_}
 use mathlib.Core.Path.{_≡_, refl, sym, ap, _∙_}
 use mathlib.Core.List.{List}
-use Prim.Native.Nat.{ℕ, _+_, _-_, _≤_, _<_}
+use mathlib.Core.Bool.{Bool, _||_}
 use native.Mathlib.Omega.{arith}
 use borrow.Author.Needs.{needs}
-use lib.ListN.{length, getD, drop, drop-of-length-le}
-use Rattle.ascending.proofs.has.Statement.{statement}
-use Rattle.ascending.proofs.has.Tie as tie
-use Rattle.ascending.proofs.Adding.{dropped}
-use Rattle.laws.proofs.Stores.{getD-region, length-region}
-use Rattle.laws.proofs.Tests.{eqb-self}
 use borrow.Author.Tests.{ne-eqb}
+use lib.ListN.{length, getD, drop, drop-of-length-le}
+use lib.Dec.{eqb}
 use Rattle.laws.specs.Merging.{region}
 use Rattle.laws.specs.Lists.{elem}
-use lib.Dec.{eqb}
-use mathlib.Core.Bool.{Bool, _||_}
+use Rattle.laws.proofs.Stores.{getD-region, length-region}
+use Rattle.laws.proofs.Tests.{eqb-self}
+use Rattle.ascending.proofs.Adding.{dropped}
+use Rattle.ascending.proofs.has.Statement.{statement}
+use Rattle.ascending.proofs.has.Tie as tie
 
+-- what is left, one word at a time
 one-more : (base : List ℕ) (s k v i : ℕ) → s + k ≤ length base → i < k → elem v (drop i (region s k base)) ≡ (eqb v (getD base (s + i) 0) || elem v (drop (i + 1) (region s k base)))
 one-more base s k v i h b =
     ap (elem v) (dropped (region s k base) i (omega (arith, length-region s k base h)))

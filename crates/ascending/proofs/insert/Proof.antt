@@ -1,27 +1,29 @@
 -- `ascending::insert` meets its contract. Found, nothing changes (`add-there`); else the words from the seat on move up (`moved-up`).
+use Prim.Native.Nat.{ℕ, suc, _≤_, _<_}
 use mathlib.Core.Path.{_≡_, sym, ap, _∙_, subst}
 use mathlib.Core.List.{_∷_}
-use Prim.Native.Nat.{ℕ, suc, _≤_, _<_}
+use mathlib.Core.Logic.{⊎-elim, _≢_}
 use native.Mathlib.Omega.{arith}
 use borrow.Author.Needs.{needs}
 use lib.Dec.{leb}
 use lib.ListN.{length, getD, take, drop, length-take, length-drop, length-append}
 use lib.Seq.{sets}
-use Rattle.ascending.proofs.insert.Statement.{statement}
-use Rattle.ascending.proofs.insert.Tie as tie
-use Rattle.ascending.proofs.Adding.{add-there, add-new, moved-up}
-use Rattle.sorting.specs.Seat.{seatOf}
-use Rattle.sorting.proofs.Inserting.{seat-le}
-use Rattle.laws.proofs.Stores.{getD-region, length-region, sets-self}
 use Rattle.laws.specs.Merging.{region}
 use Rattle.laws.specs.Lists.{add}
-use mathlib.Core.Logic.{⊎-elim, _≢_}
+use Rattle.laws.proofs.Stores.{getD-region, length-region, sets-self}
+use Rattle.sorting.specs.Seat.{seatOf}
+use Rattle.sorting.proofs.Inserting.{seat-le}
+use Rattle.ascending.proofs.Adding.{add-there, add-new, moved-up}
+use Rattle.ascending.proofs.insert.Statement.{statement}
+use Rattle.ascending.proofs.insert.Tie as tie
 
+-- the seat is within the list
 seated : (c : tie.After-seat) → c .seat .result ≤ c .before .before .before .args .n
 seated c =
     let a = c .before .before .before .args in
     omega (arith, c .seat .ensures, seat-le (a .v) (region (a .o) (a .n) (a .work .now)), length-region (a .o) (a .n) (a .work .now) (c .before .before .before .pre .0))
 
+-- v does not stand there
 fresh : (c : tie.Joined1) → c .before .seat .result < c .before .before .before .before .args .n → getD (region (c .before .before .before .before .args .o) (c .before .before .before .before .args .n) (c .before .before .before .before .args .work .now)) (c .before .seat .result) 0 ≢ c .before .before .before .before .args .v
 fresh c =
     let a = c .before .before .before .before .args in
@@ -30,6 +32,7 @@ fresh c =
     (λ u h. absurd (omega (arith, u .left)))
     (c .if1 .came)
 
+-- the list gets longer by one
 longer : (c : tie.Joined1) → length (add leb (c .before .before .before .before .args .v) (region (c .before .before .before .before .args .o) (c .before .before .before .before .args .n) (c .before .before .before .before .args .work .now))) ≡ suc (c .before .before .before .before .args .n)
 longer c =
     let a = c .before .before .before .before .args in

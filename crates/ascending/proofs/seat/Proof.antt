@@ -2,13 +2,13 @@
 use Prim.Native.Nat.{_+_, _-_, _≤_, _<_, _/_}
 use native.Mathlib.Omega.{arith}
 use borrow.Author.Needs.{needs}
+use Rattle.laws.specs.Merging.{region}
+use Rattle.laws.proofs.Stores.{getD-region, length-region}
+use Rattle.sorting.specs.Seat.{seatOf}
+use Rattle.sorting.proofs.Inserting.{seat-le}
+use Rattle.ascending.proofs.Adding.{seat-behind, seat-before}
 use Rattle.ascending.proofs.seat.Statement.{statement}
 use Rattle.ascending.proofs.seat.Tie as tie
-use Rattle.ascending.proofs.Adding.{seat-behind, seat-before}
-use Rattle.sorting.proofs.Inserting.{seat-le}
-use Rattle.sorting.specs.Seat.{seatOf}
-use Rattle.laws.proofs.Stores.{getD-region, length-region}
-use Rattle.laws.specs.Merging.{region}
 
 abbrev Inv-loop : tie.InvT-loop
 Inv-loop base o n v lo₀ hi₀ lo hi = (hi ≤ n) × (lo ≤ seatOf v (region o n base)) × (seatOf v (region o n base) ≤ hi)

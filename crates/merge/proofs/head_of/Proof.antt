@@ -1,14 +1,14 @@
 -- `merge::head_of` meets its contract. The first number of what is left, by `getD-region`.
-use mathlib.Core.Path.{_≡_, sym, ap, _∙_}
 use Prim.Native.Nat.{ℕ, _-_}
+use mathlib.Core.Path.{_≡_, sym, ap, _∙_}
 use native.Mathlib.Omega.{arith}
+use native.Mathlib.Nat.{add-zero}
 use borrow.Author.Needs.{needs}
 use lib.ListN.{getD}
-use Rattle.merge.proofs.head_of.Statement.{statement}
-use Rattle.merge.proofs.head_of.Tie as tie
-use native.Mathlib.Nat.{add-zero}
 use Rattle.laws.proofs.Stores.{getD-region}
 use Rattle.laws.proofs.ListLaws.{getD-any}
+use Rattle.merge.proofs.head_of.Statement.{statement}
+use Rattle.merge.proofs.head_of.Tie as tie
 
 mul-wide : tie.Need-mul-wide
 mul-wide c = search needs

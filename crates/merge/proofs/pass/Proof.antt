@@ -1,51 +1,59 @@
 -- `merge::pass` meets its contract. The first i runs are passed: their places are stored, the others as before.
+use Prim.Native.Nat.{ℕ, _+_, _-_, _≤_}
 use mathlib.Core.Path.{_≡_, refl, sym, ap, _∙_}
 use mathlib.Core.List.{List, [], _∷_, _++_, map, map-append}
-use Prim.Native.Nat.{ℕ, _+_, _-_, _≤_}
+use mathlib.Core.Bool.{Bool, true, false, cond}
 use native.Mathlib.Omega.{arith}
 use native.Mathlib.Numerals.{add-one}
+use native.Mathlib.Nat.{zero-add}
 use borrow.Author.Needs.{needs}
 use lib.ListN.{length, getD, set, length-append}
 use lib.Seq.{sets}
-use Rattle.merge.proofs.pass.Statement.{statement}
-use Rattle.merge.proofs.pass.Tie as tie
+use lib.Dec.{eqb}
 use Rattle.laws.specs.Lists.{keep, upFrom, onlyIf}
-use Rattle.merge.specs.Runs.{head, one, stands, next}
 use Rattle.laws.proofs.Stores.{sets-snoc, getD-after}
 use Rattle.laws.proofs.ListLaws.{upFrom-snoc, keep-append, keep-length, length-upFrom}
 use Rattle.counting.proofs.CountLaws.{length-numbered}
-use native.Mathlib.Nat.{zero-add}
-use lib.Dec.{eqb}
-use mathlib.Core.Bool.{Bool, true, false, cond}
+use Rattle.merge.specs.Runs.{head, one, stands, next}
+use Rattle.merge.proofs.pass.Statement.{statement}
+use Rattle.merge.proofs.pass.Tie as tie
 
+-- at most one
 one-le : (b : Bool) → one b ≤ 1
 one-le true = omega arith
 one-le false = omega arith
 
+-- a test counted
 one-is : (b : Bool) (i : ℕ) → length (onlyIf b (i ∷ []) ++ []) ≡ one b
 one-is true i = refl
 one-is false i = refl
 
+-- one number more
 upTo : (i : ℕ) → upFrom 0 (i + 1) ≡ upFrom 0 i ++ (i ∷ [])
 upTo i = ap (upFrom 0) (add-one i) ∙ upFrom-snoc 0 i ∙ ap (λ (j : ℕ). upFrom 0 i ++ (j ∷ [])) (zero-add i)
 
+-- one test more
 counted : (q : ℕ → Bool) (i : ℕ) → length (keep q (upFrom 0 (i + 1))) ≡ length (keep q (upFrom 0 i)) + one (q i)
 counted q i =
     ap (λ (l : List ℕ). length (keep q l)) (upTo i) ∙ ap length (keep-append q (upFrom 0 i) (i ∷ []))
     ∙ length-append (keep q (upFrom 0 i)) (keep q (i ∷ [])) ∙ ap (λ (k : ℕ). length (keep q (upFrom 0 i)) + k) (one-is (q i) i)
 
 module _ (base from₀ to : List ℕ) (g i : ℕ) (from : List ℕ) (e : from ≡ sets from₀ 0 (map (next base from₀ to g) (upFrom 0 i))) where
+  -- the place of run i is not yet moved
   there : getD from i 0 ≡ getD from₀ i 0
   there =
       ap (λ (l : List ℕ). getD l i 0) e
       ∙ getD-after from₀ 0 (map (next base from₀ to g) (upFrom 0 i)) i 0 (omega (arith, length-numbered (next base from₀ to g) i))
 
+  -- so it stands as at the start
   stands-same : stands base from to g i ≡ stands base from₀ to g i
   stands-same = ap (λ (x : ℕ). eqb (head (g + 1) x (getD to i 0) base) g) there
 
+  -- and goes on likewise
   next-same : next base from to g i ≡ next base from₀ to g i
   next-same = ap (λ (x : ℕ). cond (eqb (head (g + 1) x (getD to i 0) base) g) (x + 1) x) there
 
+  -- its place is stored
   stored : set from i (next base from to g i) ≡ sets from₀ 0 (map (next base from₀ to g) (upFrom 0 (i + 1)))
   stored =
       let f : ℕ → ℕ = next base from₀ to g in

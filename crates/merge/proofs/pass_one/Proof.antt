@@ -1,20 +1,21 @@
 -- `merge::pass_one` meets its contract. A run has g next where its first number is g; then something is left of it.
+use Prim.Native.Nat.{ℕ, _+_, _-_, _<_}
 use mathlib.Core.Path.{_≡_, refl, sym, ap, _∙_}
 use mathlib.Core.List.{List}
-use Prim.Native.Nat.{ℕ, _+_, _-_, _<_}
-use native.Mathlib.Omega.{arith}
-use borrow.Author.Needs.{needs}
-use lib.ListN.{getD}
-use lib.Seq.{set-getD}
-use Rattle.merge.proofs.pass_one.Statement.{statement}
-use Rattle.merge.proofs.pass_one.Tie as tie
-use lib.Dec.{eqb}
 use mathlib.Core.Bool.{true, false}
 use mathlib.Core.Logic.{⊎-elim}
-use Rattle.laws.proofs.Tests.{eqb-self, split}
+use native.Mathlib.Omega.{arith}
+use borrow.Author.Needs.{needs}
 use borrow.Author.Tests.{ne-eqb}
+use lib.ListN.{getD}
+use lib.Seq.{set-getD}
+use lib.Dec.{eqb}
+use Rattle.laws.proofs.Tests.{eqb-self, split}
 use Rattle.merge.specs.Runs.{head, stands}
+use Rattle.merge.proofs.pass_one.Statement.{statement}
+use Rattle.merge.proofs.pass_one.Tie as tie
 
+-- a run that has g next is not at its end
 stands-lt : (b : List ℕ) (x e g : ℕ) → head (g + 1) x e b ≡ g → x < e
 stands-lt b x e g h = ⊎-elim (λ s. s) (λ s. let z : e - x ≡ 0 = omega arith in absurd (omega (arith, rw z at h))) (split x e)
 

@@ -1,18 +1,19 @@
 -- `merge::places` meets its contract. The first i places are stored.
+use Prim.Native.Nat.{ℕ, _+_, _-_, _≤_, _<_}
 use mathlib.Core.Path.{_≡_, refl, sym, ap, _∙_}
 use mathlib.Core.List.{List, map}
-use Prim.Native.Nat.{ℕ, _+_, _-_, _≤_, _<_}
 use native.Mathlib.Omega.{arith}
+use native.Mathlib.Nat.{zero-add}
 use borrow.Author.Needs.{needs}
 use lib.ListN.{length, getD, take, set, length-map, List·getD-map}
 use lib.Seq.{sets, take-all}
+use Rattle.laws.specs.Merging.{region}
+use Rattle.laws.proofs.Stores.{sets-more, getD-region, length-region}
+use Rattle.laws.proofs.ListLaws.{getD-any}
 use Rattle.merge.proofs.places.Statement.{statement}
 use Rattle.merge.proofs.places.Tie as tie
-use Rattle.laws.proofs.Stores.{sets-more, getD-region, length-region}
-use Rattle.laws.specs.Merging.{region}
-use Rattle.laws.proofs.ListLaws.{getD-any}
-use native.Mathlib.Nat.{zero-add}
 
+-- one place more
 step : (base : List ℕ) (s k o x i : ℕ) (l : List ℕ) (m : ℕ) → i < k → s + k ≤ length base → m ≡ x + getD base (o + getD base (s + i) 0) 0
     → set (sets l 0 (take i (map (λ n. x + getD base (o + n) 0) (region s k base)))) i m ≡ sets l 0 (take (i + 1) (map (λ n. x + getD base (o + n) 0) (region s k base)))
 step base s k o x i l m h b e =
@@ -30,6 +31,7 @@ Inv-loop base s k o x to₀ i₀ to i = (i ≤ k) × (to ≡ sets to₀ 0 (take 
 abbrev μ-loop : tie.MeasureT-loop
 μ-loop base s k o x to₀ i₀ to i = k - i
 
+-- the word that is read
 value : (c : tie.After-wide2 Inv-loop μ-loop) → c .wide2 .result ≡ getD (c .before .before .before .before .before .before .before .args .base .now) (c .before .before .before .before .before .before .before .args .o + getD (c .before .before .before .before .before .before .before .args .base .now) (c .before .before .before .before .before .before .before .args .s + c .before .before .before .before .before .loop .i) 0) 0
 value c = c .wide2 .ensures ∙ ap (λ (m : ℕ). getD (c .before .before .before .before .before .before .before .args .base .now) (c .before .before .before .before .before .before .before .args .o + m) 0) (c .before .before .wide .ensures)
 

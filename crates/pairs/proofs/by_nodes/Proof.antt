@@ -1,9 +1,9 @@
 -- `pairs::by_nodes` meets its contract. The two works are compared.
-use Rattle.pairs.specs.Work.{byNodes}
-use lib.Dec.{leb}
 use Prim.Native.Nat.{ℕ, _*_}
 use mathlib.Core.Path.{ap₂}
 use borrow.Author.Needs.{needs}
+use lib.Dec.{leb}
+use Rattle.pairs.specs.Work.{byNodes}
 use Rattle.pairs.proofs.by_nodes.Statement.{statement}
 use Rattle.pairs.proofs.by_nodes.Tie as tie
 

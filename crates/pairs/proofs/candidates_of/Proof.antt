@@ -1,6 +1,6 @@
 -- `pairs::candidates_of` meets its contract. Both searches promise the same.
-use Rattle.pairs.proofs.Again.{ready-again}
 use borrow.Author.Needs.{needs}
+use Rattle.pairs.proofs.Again.{ready-again}
 use Rattle.pairs.proofs.candidates_of.Statement.{statement}
 use Rattle.pairs.proofs.candidates_of.Tie as tie
 

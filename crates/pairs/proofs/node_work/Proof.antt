@@ -1,19 +1,19 @@
 -- `pairs::node_work` meets its contract. What is added, and what is left to add, is the whole; a word adds at most 2 ^ 20.
-use Rattle.pairs.proofs.Sums.{left, left-all, left-turn, left-end}
-use Rattle.pairs.specs.Work.{pairsOf, nodeWork, Few}
-use Rattle.seek.proofs.Read.{below-words}
-use Rattle.index.proofs.Built.{list-long}
-use Rattle.index.specs.Faces.{input, wordsOf, facesWith, Indexed}
-use Rattle.index.specs.declared.Places.{Places}
-use Rattle.counting.proofs.CountLaws.{below-suc}
-use Rattle.counting.specs.Counts.{times, below}
-use lib.ListN.{length}
-use borrow.Author.Needs.{needs}
-use native.Mathlib.Numerals.{add-one}
-use native.Mathlib.Omega.{arith}
-use Prim.Native.Nat.{ℕ, _+_, _-_, _*_, _≤_, _<_, _^_}
+use Prim.Native.Nat.{ℕ, _+_, _-_, _*_, _≤_, _^_}
 use mathlib.Core.List.{List}
 use mathlib.Core.Path.{_≡_, sym, ap, _∙_}
+use native.Mathlib.Numerals.{add-one}
+use native.Mathlib.Omega.{arith}
+use borrow.Author.Needs.{needs}
+use lib.ListN.{length}
+use Rattle.counting.specs.Counts.{times, below}
+use Rattle.counting.proofs.CountLaws.{below-suc}
+use Rattle.index.specs.declared.Places.{Places}
+use Rattle.index.specs.Faces.{input, wordsOf, facesWith, Indexed}
+use Rattle.index.proofs.Built.{list-long}
+use Rattle.seek.proofs.Read.{below-words}
+use Rattle.pairs.specs.Work.{pairsOf, nodeWork, Few}
+use Rattle.pairs.proofs.Sums.{left, left-all, left-turn, left-end}
 use Rattle.pairs.proofs.node_work.Statement.{statement}
 use Rattle.pairs.proofs.node_work.Tie as tie
 

@@ -1,8 +1,8 @@
 -- `pairs::pairs_of` meets its contract. Laws of Sums.
-use Rattle.pairs.proofs.Sums.{pairs-fit, pairs-few}
-use native.Mathlib.Omega.{arith}
 use mathlib.Core.Path.{refl}
+use native.Mathlib.Omega.{arith}
 use borrow.Author.Needs.{needs}
+use Rattle.pairs.proofs.Sums.{pairs-fit, pairs-few}
 use Rattle.pairs.proofs.pairs_of.Statement.{statement}
 use Rattle.pairs.proofs.pairs_of.Tie as tie
 

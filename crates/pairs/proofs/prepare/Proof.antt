@@ -1,16 +1,16 @@
 -- `pairs::prepare` meets its contract. What the index ensures is what the searches require (`ready-first`).
-use Rattle.pairs.proofs.Again.{ready-first}
-use Rattle.pairs.specs.Work.{byNodes}
-use Rattle.pairs.specs.Tables.{ReadyAll}
-use Rattle.index.proofs.Built.{built, input-is}
-use Rattle.index.specs.Faces.{input, base, offsetsOf, indexOf, Indexed}
-use lib.Seq.{length-sets, length-take-le}
-use native.Mathlib.Omega.{arith}
 use Prim.Native.Nat.{ℕ}
 use mathlib.Core.List.{List, _++_}
-use lib.ListN.{length}
 use mathlib.Core.Path.{_≡_, sym, ap, _∙_, subst}
+use native.Mathlib.Omega.{arith}
 use borrow.Author.Needs.{needs}
+use lib.Seq.{length-sets, length-take-le}
+use lib.ListN.{length}
+use Rattle.index.specs.Faces.{input, base, offsetsOf, indexOf, Indexed}
+use Rattle.index.proofs.Built.{built, input-is}
+use Rattle.pairs.specs.Work.{byNodes}
+use Rattle.pairs.specs.Tables.{ReadyAll}
+use Rattle.pairs.proofs.Again.{ready-first}
 use Rattle.pairs.proofs.prepare.Statement.{statement}
 use Rattle.pairs.proofs.prepare.Tie as tie
 

@@ -1,14 +1,14 @@
 -- `pairs::triple_work` meets its contract. What is added, and what is left to add, is the whole; a face adds at most 2 ^ 18.
-use Rattle.pairs.proofs.Sums.{left, left-all, left-turn, left-end}
-use Rattle.pairs.specs.Work.{triplesOf, tripleWork}
-use Rattle.index.specs.Faces.{input, nodesOf}
-use Rattle.index.specs.declared.Places.{Places}
-use lib.ListN.{length}
-use borrow.Author.Needs.{needs}
-use native.Mathlib.Omega.{arith}
 use Prim.Native.Nat.{ℕ, _+_, _-_, _*_, _≤_, _^_}
 use mathlib.Core.List.{List}
 use mathlib.Core.Path.{_≡_, ap, _∙_}
+use native.Mathlib.Omega.{arith}
+use borrow.Author.Needs.{needs}
+use lib.ListN.{length}
+use Rattle.index.specs.declared.Places.{Places}
+use Rattle.index.specs.Faces.{input, nodesOf}
+use Rattle.pairs.specs.Work.{triplesOf, tripleWork}
+use Rattle.pairs.proofs.Sums.{left, left-all, left-turn, left-end}
 use Rattle.pairs.proofs.triple_work.Statement.{statement}
 use Rattle.pairs.proofs.triple_work.Tie as tie
 

@@ -1,8 +1,8 @@
 -- `pairs::triples_of` meets its contract. Laws of Sums.
-use Rattle.pairs.proofs.Sums.{triples-none, two-fit, three-fit, triples-few}
-use native.Mathlib.Omega.{arith}
 use mathlib.Core.Path.{refl}
+use native.Mathlib.Omega.{arith}
 use borrow.Author.Needs.{needs}
+use Rattle.pairs.proofs.Sums.{triples-none, two-fit, three-fit, triples-few}
 use Rattle.pairs.proofs.triples_of.Statement.{statement}
 use Rattle.pairs.proofs.triples_of.Tie as tie
 

@@ -1,21 +1,23 @@
 -- `seek::bow_at` meets its contract. The two words are those that the definition reads.
-use Rattle.seek.proofs.Read.{read-cell, read-bow, long}
-use Rattle.index.specs.Faces.{input, cellOf}
-use lib.ListN.{getD}
-use lib.Dec.{eqb}
-use native.Mathlib.Omega.{arith}
 use Prim.Native.Nat.{ℕ, _+_, _<_}
 use mathlib.Core.Bool.{not}
 use mathlib.Core.Path.{_≡_, ap, _∙_}
+use native.Mathlib.Omega.{arith}
 use borrow.Author.Needs.{needs}
+use lib.ListN.{getD}
+use lib.Dec.{eqb}
+use Rattle.index.specs.Faces.{input, cellOf}
+use Rattle.seek.proofs.Read.{read-cell, read-bow, long}
 use Rattle.seek.proofs.bow_at.Statement.{statement}
 use Rattle.seek.proofs.bow_at.Tie as tie
 
+-- the first word is the cell
 cell-is : (c : tie.After-wide) → c .wide .result ≡ cellOf (c .before .before .before .before .args .at) (input (c .before .before .before .before .args .at) (c .before .before .before .before .args .base .now)) (c .before .before .before .before .args .g)
 cell-is c =
     let a = c .before .before .before .before .args in
     c .wide .ensures ∙ read-cell (a .at) (a .base .now) (c .before .before .before .before .pre .0) (a .g) (c .before .before .before .before .pre .1)
 
+-- its word on bow-ties lies within the slice
 within : (c : tie.After-wide) → c .before .before .before .before .args .at .bows + c .wide .result < lib.ListN.length (c .before .before .before .before .args .base .now)
 within c =
     let a = c .before .before .before .before .args in

@@ -1,15 +1,15 @@
 -- `seek::is_apart` meets its contract. One test after the other.
+use mathlib.Core.Bool.{Bool, false, not}
+use mathlib.Core.Path.{_≡_, sym, ap, _∙_}
+use borrow.Author.Tests.{le-ltb, lt-ltb, eq-eqb, ne-eqb}
+use borrow.Author.Needs.{needs}
+use Rattle.index.specs.Faces.{input, cellOf}
 use Rattle.seek.specs.Steps.{apart}
 use Rattle.seek.proofs.Read.{read-cell}
-use Rattle.index.specs.Faces.{input, cellOf}
-use borrow.Author.Tests.{le-ltb, lt-ltb, eq-eqb, ne-eqb}
-use Prim.Native.Nat.{ℕ}
-use mathlib.Core.Bool.{Bool, true, false, not, _&&_, and-false}
-use mathlib.Core.Path.{_≡_, sym, ap, _∙_}
-use borrow.Author.Needs.{needs}
 use Rattle.seek.proofs.is_apart.Statement.{statement}
 use Rattle.seek.proofs.is_apart.Tie as tie
 
+-- the cells differ
 others : (c : tie.Else2) → _≡_ {A = Bool} (lib.Dec.eqb (cellOf (c .before .before .before .before .before .args .at) (input (c .before .before .before .before .before .args .at) (c .before .before .before .before .before .args .base .now)) (c .before .before .before .before .before .args .lo)) (cellOf (c .before .before .before .before .before .args .at) (input (c .before .before .before .before .before .args .at) (c .before .before .before .before .before .args .base .now)) (c .before .before .before .before .before .args .g))) false
 others c =
     let a = c .before .before .before .before .before .args in

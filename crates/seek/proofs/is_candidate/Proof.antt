@@ -1,18 +1,19 @@
 -- `seek::is_candidate` meets its contract. Three tests, the cheapest first.
-use Rattle.seek.specs.Steps.{early}
-use Rattle.seek.specs.Candidates.{common}
-use Rattle.seek.proofs.Condition.{shares-early}
-use Rattle.index.specs.Faces.{input, nodesOf}
-use lib.ListN.{length}
-use lib.Dec.{leb}
-use borrow.Author.Tests.{lt-leb, le-leb, not-true, not-false}
 use Prim.Native.Nat.{ℕ}
 use mathlib.Core.Bool.{Bool, true, not, _&&_, and-false, and-true}
 use mathlib.Core.Path.{_≡_, sym, ap, _∙_}
+use borrow.Author.Tests.{lt-leb, le-leb, not-true, not-false}
 use borrow.Author.Needs.{needs}
+use lib.ListN.{length}
+use lib.Dec.{leb}
+use Rattle.index.specs.Faces.{input, nodesOf}
+use Rattle.seek.specs.Steps.{early}
+use Rattle.seek.specs.Candidates.{common}
+use Rattle.seek.proofs.Condition.{shares-early}
 use Rattle.seek.proofs.is_candidate.Statement.{statement}
 use Rattle.seek.proofs.is_candidate.Tie as tie
 
+-- there are three common nodes
 three : (c : tie.Else1) → leb 3 (length (common (nodesOf (c .before .before .args .at) (input (c .before .before .args .at) (c .before .before .args .base .now)) (c .before .before .args .lo)) (nodesOf (c .before .before .args .at) (input (c .before .before .args .at) (c .before .before .args .base .now)) (c .before .before .args .g)))) ≡ true
 three c = ap (leb 3) (sym (c .before .before .pre .1 .1)) ∙ le-leb 3 (c .before .before .args .c) (c .if1 .left)
 

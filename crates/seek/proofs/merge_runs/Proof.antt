@@ -1,26 +1,26 @@
 -- `seek::merge_runs` meets its contract. `Held`: the candidates below g are noted, and the runs stand at g. `took` takes g, `moved-on` goes to the next lowest.
+use Prim.Native.Nat.{ℕ, _+_, _-_, _≤_, _<_}
 use mathlib.Core.Path.{_≡_, refl, sym, ap, ap₂, _∙_, subst}
 use mathlib.Core.List.{List, [], _∷_, _++_, append-nil}
-use Prim.Native.Nat.{ℕ, _+_, _-_, _≤_, _<_}
 use native.Mathlib.Omega.{arith}
 use native.Mathlib.Numerals.{add-one}
+use native.Mathlib.Nat.{zero-add}
 use borrow.Author.Needs.{needs}
 use lib.ListN.{length, length-append}
 use lib.Seq.{sets, length-sets, length-take-le}
-use Rattle.seek.proofs.merge_runs.Statement.{statement}
-use Rattle.seek.proofs.merge_runs.Tie as tie
-use Rattle.seek.proofs.Merging.{no-lower, skipped, lowered}
-use Rattle.seek.proofs.Searching.{base-same, input-base, input-same, ready-same, upTo-length}
-use Rattle.seek.specs.Steps.{Runs, one, upTo}
-use Rattle.seek.specs.Candidates.{shares, candidates, Ready}
-use Rattle.merge.specs.Runs.{Ends, Lowest}
-use Rattle.index.specs.Faces.{input, base}
-use Rattle.index.specs.declared.Places.{Places}
+use Rattle.laws.specs.Lists.{keep, upFrom}
 use Rattle.laws.proofs.Ascending.{keep-skip}
 use Rattle.laws.proofs.Stores.{sets-append}
 use Rattle.laws.proofs.ListLaws.{keep-append, upFrom-snoc}
-use Rattle.laws.specs.Lists.{keep, upFrom}
-use native.Mathlib.Nat.{zero-add}
+use Rattle.index.specs.declared.Places.{Places}
+use Rattle.index.specs.Faces.{input, base}
+use Rattle.merge.specs.Runs.{Ends, Lowest}
+use Rattle.seek.specs.Steps.{Runs, one, upTo}
+use Rattle.seek.specs.Candidates.{shares, candidates, Ready}
+use Rattle.seek.proofs.Merging.{no-lower, skipped, lowered}
+use Rattle.seek.proofs.Searching.{base-same, input-base, input-same, ready-same, upTo-length}
+use Rattle.seek.proofs.merge_runs.Statement.{statement}
+use Rattle.seek.proofs.merge_runs.Tie as tie
 
 record Held (p : Places) (w : List ℕ) (lo k g n : ℕ) (from to v : List ℕ) : Type 0 where
   top : g ≤ p .faces
@@ -39,12 +39,14 @@ moved-on p w lo k g n from to v ready held g′ low =
     ∙ ap (upTo p (input p w) lo) e in
     (up, record { top = low .top; work = held .work ∙ ap (sets w (p .found)) same; number = held .number ∙ ap length same; runs = lowered p (base p w) lo k g from to (held .runs) g′ (held .top) low })
 
+-- the candidates below g, and g where it is one
 next-one : (p : Places) (t : List ℕ) (lo g : ℕ) → upTo p t lo g ++ one p t lo g ≡ upTo p t lo (g + 1)
 next-one p t lo g =
     ap (λ (l : List ℕ). upTo p t lo g ++ l) (sym (append-nil (one p t lo g)))
     ∙ sym (keep-append (shares p t lo) (upFrom 0 g) (g ∷ []))
     ∙ ap (keep (shares p t lo)) (sym (ap (upFrom 0) (add-one g) ∙ upFrom-snoc 0 g ∙ ap (λ (j : ℕ). upFrom 0 g ++ (j ∷ [])) (zero-add g)))
 
+-- what the search reads stays
 same-base : (p : Places) (w : List ℕ) (lo k g n : ℕ) (from to v : List ℕ) → Held p w lo k g n from to v → base p v ≡ base p w
 same-base p w lo k g n from to v held = ap (base p) (held .work) ∙ base-same p w (upTo p (input p w) lo g)
 
@@ -62,9 +64,11 @@ took p w lo k g n from to v ready held h r from′ v′ a b c =
       runs = subst (λ (l : List ℕ). Runs p l lo k (g + 1) from′ to) (same-base p w lo k g n from to v held) c;
     }
 
+-- nothing is noted at the start
 begin : (p : Places) (w : List ℕ) (lo k : ℕ) (from to : List ℕ) → Runs p (base p w) lo k 0 from to → Held p w lo k 0 0 from to w
 begin p w lo k from to r = record { top = omega arith; work = refl; number = refl; runs = r }
 
+-- the length stays
 longer : (p : Places) (w : List ℕ) (lo k g n : ℕ) (from to v : List ℕ) → Ready p lo w → Held p w lo k g n from to v → p .found ≤ length v
 longer p w lo k g n from to v ready held = omega (arith, ready .room, ap length (held .work) ∙ length-sets w (p .found) (upTo p (input p w) lo g))
 
@@ -74,6 +78,7 @@ Inv-loop work₀ at lo k from₀ to found n₀ g₀ work from n g = Held at work
 abbrev μ-loop : tie.MeasureT-loop
 μ-loop work₀ at lo k from₀ to found n₀ g₀ work from n g = at .faces - g
 
+-- after a face is taken
 taken : (c : tie.After-take-face Inv-loop μ-loop) → Held (c .before .before .before .before .before .before .before .before .before .before .args .at) (c .before .before .before .before .before .before .before .before .before .before .args .work .now) (c .before .before .before .before .before .before .before .before .before .before .args .lo) (c .before .before .before .before .before .before .before .before .before .before .args .k) (c .before .before .before .before .before .loop .g + 1) (c .take-face .result) (c .take-face .last .1 .1 .1 .1 .0) (c .before .before .before .before .before .before .before .before .before .before .args .to .now) (c .take-face .last .0)
 taken c =
     let a = c .before .before .before .before .before .before .before .before .before .before .args in
@@ -81,6 +86,7 @@ taken c =
     let f = c .take-face in
     took (a .at) (a .work .now) (a .lo) (a .k) (l .g) (l .n) (l .from) (a .to .now) (l .work) (c .before .before .before .before .before .before .before .before .before .before .pre .0) (l .inv) (c .before .before .before .if1 .taken) (f .result) (f .last .1 .1 .1 .1 .0) (f .last .0) (f .ensures .0) (f .ensures .1 .0) (f .ensures .1 .1)
 
+-- after the move to the next
 onward : (c : tie.After-lowest2 Inv-loop μ-loop) → (c .before .before .before .before .before .before .before .before .before .before .loop .g + 1 ≤ c .lowest2 .result) × Held (c .before .before .before .before .before .before .before .before .before .before .before .before .before .before .before .args .at) (c .before .before .before .before .before .before .before .before .before .before .before .before .before .before .before .args .work .now) (c .before .before .before .before .before .before .before .before .before .before .before .before .before .before .before .args .lo) (c .before .before .before .before .before .before .before .before .before .before .before .before .before .before .before .args .k) (c .lowest2 .result) (c .before .before .before .before .before .take-face .result) (c .before .before .before .before .before .take-face .last .1 .1 .1 .1 .0) (c .before .before .before .before .before .before .before .before .before .before .before .before .before .before .before .args .to .now) (c .before .before .before .before .before .take-face .last .0)
 onward c =
     let a = c .before .before .before .before .before .before .before .before .before .before .before .before .before .before .before .args in

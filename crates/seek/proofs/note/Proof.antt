@@ -1,9 +1,9 @@
 -- `seek::note` meets its contract. Stored where it is wanted, else nothing.
-use lib.ListN.{set}
-use native.Mathlib.Omega.{arith}
 use Prim.Native.Nat.{_+_}
 use mathlib.Core.Path.{refl, ap}
+use native.Mathlib.Omega.{arith}
 use borrow.Author.Needs.{needs}
+use lib.ListN.{set}
 use Rattle.seek.proofs.note.Statement.{statement}
 use Rattle.seek.proofs.note.Tie as tie
 

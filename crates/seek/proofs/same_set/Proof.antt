@@ -1,11 +1,11 @@
 -- `seek::same_set` meets its contract. The words that `equal` is given are the two node sets.
-use Rattle.seek.proofs.Read.{set-fits, set-there}
-use Rattle.laws.specs.Merging.{region}
-use Rattle.laws.specs.Lists.{eql}
-use native.Mathlib.Omega.{arith}
 use Prim.Native.Nat.{ℕ}
 use mathlib.Core.Path.{ap₂, _∙_}
+use native.Mathlib.Omega.{arith}
 use borrow.Author.Needs.{needs}
+use Rattle.laws.specs.Merging.{region}
+use Rattle.laws.specs.Lists.{eql}
+use Rattle.seek.proofs.Read.{set-fits, set-there}
 use Rattle.seek.proofs.same_set.Statement.{statement}
 use Rattle.seek.proofs.same_set.Tie as tie
 

@@ -1,16 +1,16 @@
 -- `seek::seek_by_nodes` meets its contract. The runs as `open_runs` leaves them are those that `merge_runs` asks (`opened`).
-use Rattle.seek.specs.Steps.{Runs}
-use Rattle.seek.proofs.Searching.{none-sought}
-use Rattle.seek.proofs.Merging.{opened}
-use Rattle.index.specs.Faces.{input, base, nodesOf, wordsOf}
-use Rattle.counting.specs.Counts.{below}
-use lib.Seq.{sets, length-take-le}
-use lib.ListN.{length, replicate}
-use native.Mathlib.Omega.{arith}
 use Prim.Native.Nat.{ℕ, _+_}
 use mathlib.Core.List.{List, map}
 use mathlib.Core.Path.{refl, sym, _∙_, subst}
+use native.Mathlib.Omega.{arith}
 use borrow.Author.Needs.{needs}
+use lib.Seq.{sets, length-take-le}
+use lib.ListN.{length, replicate}
+use Rattle.counting.specs.Counts.{below}
+use Rattle.index.specs.Faces.{input, base, nodesOf, wordsOf}
+use Rattle.seek.specs.Steps.{Runs}
+use Rattle.seek.proofs.Searching.{none-sought}
+use Rattle.seek.proofs.Merging.{opened}
 use Rattle.seek.proofs.seek_by_nodes.Statement.{statement}
 use Rattle.seek.proofs.seek_by_nodes.Tie as tie
 

@@ -1,6 +1,6 @@
 -- `seek::set_size` meets its contract. The next start less the start is the set's length.
-use Rattle.seek.proofs.Read.{in-order, count}
 use borrow.Author.Needs.{needs}
+use Rattle.seek.proofs.Read.{set-long}
 use Rattle.seek.proofs.set_size.Statement.{statement}
 use Rattle.seek.proofs.set_size.Tie as tie
 
@@ -31,12 +31,12 @@ wide-requires-2 c κs = search needs
 sub-result : tie.Need-sub-result
 sub-result c =
     let a = c .before .before .before .before .before .before .args in
-    in-order (a .at) (a .base .now) (c .before .before .before .before .before .before .pre .0) (a .g) (c .before .before .before .before .before .before .pre .1) (c .before .before .wide .result) (c .wide2 .result) (c .before .before .wide .ensures) (c .wide2 .ensures)
+    set-long (a .at) (a .base .now) (c .before .before .before .before .before .before .pre .0) (a .g) (c .before .before .before .before .before .before .pre .1) (c .before .before .wide .result) (c .wide2 .result) (c .before .before .wide .ensures) (c .wide2 .ensures) .0
 
 returns : tie.Need-returns
 returns c =
     let a = c .before .before .before .before .before .before .args in
-    count (a .at) (a .base .now) (c .before .before .before .before .before .before .pre .0) (a .g) (c .before .before .before .before .before .before .pre .1) (c .before .before .wide .result) (c .wide2 .result) (c .before .before .wide .ensures) (c .wide2 .ensures)
+    set-long (a .at) (a .base .now) (c .before .before .before .before .before .before .pre .0) (a .g) (c .before .before .before .before .before .before .pre .1) (c .before .before .wide .result) (c .wide2 .result) (c .before .before .wide .ensures) (c .wide2 .ensures) .1
 
 pub set-size-spec : {M : Type 1} → statement M
 set-size-spec =

@@ -1,18 +1,18 @@
 -- `seek::take_face` meets its contract. How many runs had g next is how many nodes it shares (`counted`).
-use Rattle.seek.proofs.Searching.{input-base}
-use Rattle.seek.proofs.Merging.{counted, passed}
-use Rattle.seek.specs.Steps.{Runs}
-use Rattle.seek.specs.Candidates.{shares}
-use Rattle.index.specs.Faces.{input, base}
-use Rattle.laws.specs.Lists.{onlyIf}
-use lib.Seq.{sets, length-take-le}
-use lib.ListN.{length}
-use native.Mathlib.Omega.{arith}
 use Prim.Native.Nat.{ℕ, _+_}
 use mathlib.Core.List.{List, [], _∷_}
 use mathlib.Core.Bool.{Bool}
 use mathlib.Core.Path.{_≡_, sym, ap, _∙_, subst}
+use native.Mathlib.Omega.{arith}
 use borrow.Author.Needs.{needs}
+use lib.Seq.{sets, length-take-le}
+use lib.ListN.{length}
+use Rattle.laws.specs.Lists.{onlyIf}
+use Rattle.index.specs.Faces.{input, base}
+use Rattle.seek.specs.Steps.{Runs}
+use Rattle.seek.specs.Candidates.{shares}
+use Rattle.seek.proofs.Searching.{input-base}
+use Rattle.seek.proofs.Merging.{counted, passed}
 use Rattle.seek.proofs.take_face.Statement.{statement}
 use Rattle.seek.proofs.take_face.Tie as tie
 

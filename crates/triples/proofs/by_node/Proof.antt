@@ -1,19 +1,19 @@
 -- `triples::by_node` meets its contract. A loop of Turns: the pieces are the hits of each second node with those behind it.
+use Prim.Native.Nat.{ℕ, _+_, _-_, _≤_}
 use mathlib.Core.Path.{refl, ap, ap₂, _∙_, subst}
 use mathlib.Core.List.{List}
-use Prim.Native.Nat.{ℕ, _+_, _-_, _≤_}
 use native.Mathlib.Omega.{arith}
 use borrow.Author.Needs.{needs}
 use lib.ListN.{getD}
+use Rattle.laws.specs.Lists.{each}
+use Rattle.index.specs.declared.Places.{Places}
+use Rattle.index.specs.Faces.{input, base}
+use Rattle.merge.specs.Runs.{rest}
+use Rattle.triples.specs.Hits.{hits3, hits2, Added}
+use Rattle.triples.proofs.Adds.{Prog}
+use Rattle.triples.proofs.Turns.{held-start, held-open, held-base, held-input, held-length, held-read, held-span, held-next, held-end, faces-node}
 use Rattle.triples.proofs.by_node.Statement.{statement}
 use Rattle.triples.proofs.by_node.Tie as tie
-use Rattle.triples.proofs.Adds.{Prog}
-use Rattle.triples.specs.Hits.{hits3, hits2, Added}
-use Rattle.merge.specs.Runs.{rest}
-use Rattle.index.specs.Faces.{input, base}
-use Rattle.index.specs.declared.Places.{Places}
-use Rattle.laws.specs.Lists.{each}
-use Rattle.triples.proofs.Turns.{held-start, held-open, held-base, held-input, held-length, held-read, held-span, held-next, held-end, faces-node}
 
 abbrev G : Places → List ℕ → (lo a : ℕ) → List ℕ → List ℕ
 G p w lo a l = hits2 p (input p w) lo a l

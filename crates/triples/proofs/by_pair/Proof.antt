@@ -1,18 +1,18 @@
 -- `triples::by_pair` meets its contract. A loop of Turns: the pieces are the hits of each third node.
+use Prim.Native.Nat.{ℕ, _-_, _≤_}
 use mathlib.Core.Path.{refl, ap₂, subst}
 use mathlib.Core.List.{List}
-use Prim.Native.Nat.{ℕ, _-_, _≤_}
 use native.Mathlib.Omega.{arith}
 use borrow.Author.Needs.{needs}
-use Rattle.triples.proofs.by_pair.Statement.{statement}
-use Rattle.triples.proofs.by_pair.Tie as tie
+use Rattle.laws.specs.Lists.{each}
+use Rattle.index.specs.declared.Places.{Places}
+use Rattle.index.specs.Faces.{input, base}
+use Rattle.merge.specs.Runs.{rest}
+use Rattle.triples.specs.Hits.{hits3, Added}
 use Rattle.triples.proofs.Turns.{held-start, held-open, held-base, held-input, held-length, held-read, held-next, held-end, faces-pair}
 use Rattle.triples.proofs.Adds.{Prog}
-use Rattle.triples.specs.Hits.{hits3, Added}
-use Rattle.merge.specs.Runs.{rest}
-use Rattle.index.specs.Faces.{input, base}
-use Rattle.index.specs.declared.Places.{Places}
-use Rattle.laws.specs.Lists.{each}
+use Rattle.triples.proofs.by_pair.Statement.{statement}
+use Rattle.triples.proofs.by_pair.Tie as tie
 
 abbrev G : Places → List ℕ → (lo a b : ℕ) → List ℕ → List ℕ
 G p w lo a b l = each (hits3 p (input p w) lo a b) l

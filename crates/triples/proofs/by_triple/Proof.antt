@@ -1,17 +1,18 @@
 -- `triples::by_triple` meets its contract. One list of the three holds all hits (OneList).
+use Prim.Native.Nat.{ℕ, _+_, _<_}
 use mathlib.Core.Path.{_≡_, sym, ap, subst}
 use mathlib.Core.List.{List, [], _∷_}
-use Prim.Native.Nat.{ℕ, _+_, _<_}
+use mathlib.Core.Bool.{true}
 use native.Mathlib.Omega.{arith}
 use borrow.Author.Needs.{needs}
 use lib.Seq.{length-take-le}
+use Rattle.laws.specs.Lists.{elem}
+use Rattle.triples.specs.Hits.{Added}
+use Rattle.triples.proofs.OneList.{one-of, within, all-faces, the-hits}
 use Rattle.triples.proofs.by_triple.Statement.{statement}
 use Rattle.triples.proofs.by_triple.Tie as tie
-use Rattle.triples.proofs.OneList.{one-of, within, all-faces, the-hits}
-use Rattle.triples.specs.Hits.{Added}
-use Rattle.laws.specs.Lists.{elem}
-use mathlib.Core.Bool.{true}
 
+-- the node of the shortest list is a node
 low : (c : tie.After-shortest) → c .shortest .result < c .before .before .before .args .at .nodes
 low c =
     let a = c .before .before .before .args in

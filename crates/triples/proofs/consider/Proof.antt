@@ -1,23 +1,24 @@
 -- `triples::consider` meets its contract. A hit is inserted, and there is room for it, since the list stays ascending and below the number of faces.
+use Prim.Native.Nat.{ℕ, _+_, _≤_, _<_}
 use mathlib.Core.Path.{_≡_, sym, ap, _∙_, subst}
 use mathlib.Core.List.{List, [], _∷_}
-use Prim.Native.Nat.{ℕ, _+_, _≤_, _<_}
+use mathlib.Core.Bool.{true, false, or-false}
 use native.Mathlib.Omega.{arith}
 use borrow.Author.Needs.{needs}
+use borrow.Author.Tests.{eqb-true}
 use lib.ListN.{length}
 use lib.Seq.{sets, length-take-le}
+use lib.Dec.{leb, eqb}
+use Rattle.laws.specs.Lists.{add}
+use Rattle.index.specs.declared.Places.{Places}
+use Rattle.index.specs.Faces.{input}
+use Rattle.seek.proofs.Searching.{input-base}
+use Rattle.triples.specs.Hits.{hit, listed}
+use Rattle.triples.proofs.Adds.{Faces, sum-few, added-none}
 use Rattle.triples.proofs.consider.Statement.{statement}
 use Rattle.triples.proofs.consider.Tie as tie
-use Rattle.triples.proofs.Adds.{Faces, sum-few, added-none}
-use Rattle.triples.specs.Hits.{hit, listed}
-use Rattle.seek.proofs.Searching.{input-base}
-use Rattle.index.specs.Faces.{input}
-use Rattle.index.specs.declared.Places.{Places}
-use borrow.Author.Tests.{eqb-true}
-use Rattle.laws.specs.Lists.{add}
-use lib.Dec.{leb, eqb}
-use mathlib.Core.Bool.{true, false, or-false}
 
+-- one face
 only : (p : Places) (g : ℕ) → g < p .faces → Faces p (g ∷ [])
 only p g h x e = let s : x ≡ g = eqb-true x g (sym (or-false (eqb x g)) ∙ e) in omega arith
 

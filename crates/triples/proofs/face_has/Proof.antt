@@ -1,11 +1,11 @@
 -- `triples::face_has` meets its contract. The words that `has` is given are the node set.
-use Rattle.seek.proofs.Read.{set-fits, set-there}
-use Rattle.laws.specs.Merging.{region}
-use Rattle.laws.specs.Lists.{elem}
-use native.Mathlib.Omega.{arith}
 use Prim.Native.Nat.{ℕ}
 use mathlib.Core.Path.{ap, ap₂, _∙_}
+use native.Mathlib.Omega.{arith}
 use borrow.Author.Needs.{needs}
+use Rattle.laws.specs.Merging.{region}
+use Rattle.laws.specs.Lists.{elem}
+use Rattle.seek.proofs.Read.{set-fits, set-there}
 use Rattle.triples.proofs.face_has.Statement.{statement}
 use Rattle.triples.proofs.face_has.Tie as tie
 

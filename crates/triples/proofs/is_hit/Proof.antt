@@ -1,11 +1,11 @@
 -- `triples::is_hit` meets its contract. One test after the other.
-use Rattle.triples.specs.Hits.{hit}
+use mathlib.Core.Bool.{not, and-true, and-false}
+use mathlib.Core.Path.{sym, ap, _∙_}
+use borrow.Author.Tests.{not-true, not-false}
+use borrow.Author.Needs.{needs}
 use Rattle.index.specs.Faces.{input}
 use Rattle.seek.specs.Steps.{early}
-use borrow.Author.Tests.{not-true, not-false}
-use mathlib.Core.Bool.{Bool, true, false, not, _&&_, and-true, and-false}
-use mathlib.Core.Path.{_≡_, refl, sym, ap, _∙_}
-use borrow.Author.Needs.{needs}
+use Rattle.triples.specs.Hits.{hit}
 use Rattle.triples.proofs.is_hit.Statement.{statement}
 use Rattle.triples.proofs.is_hit.Tie as tie
 

@@ -1,15 +1,15 @@
 -- `triples::list_length` meets its contract. Two offsets that follow each other differ by the length of the list.
 -- the offset of v, and that of the next node
-use Rattle.index.specs.Faces.{input, wordsOf, Indexed}
-use Rattle.index.specs.declared.Places.{Places}
-use Rattle.counting.proofs.CountLaws.{below-suc}
-use Rattle.counting.specs.Counts.{times, below}
-use lib.ListN.{getD}
-use native.Mathlib.Omega.{arith}
-use mathlib.Core.List.{List}
 use Prim.Native.Nat.{ℕ, suc, _+_, _<_}
+use mathlib.Core.List.{List}
 use mathlib.Core.Path.{_≡_, ap, _∙_}
+use native.Mathlib.Omega.{arith}
 use borrow.Author.Needs.{needs}
+use lib.ListN.{getD}
+use Rattle.counting.specs.Counts.{times, below}
+use Rattle.counting.proofs.CountLaws.{below-suc}
+use Rattle.index.specs.declared.Places.{Places}
+use Rattle.index.specs.Faces.{input, wordsOf, Indexed}
 use Rattle.triples.proofs.list_length.Statement.{statement}
 use Rattle.triples.proofs.list_length.Tie as tie
 

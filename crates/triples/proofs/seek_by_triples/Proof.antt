@@ -1,24 +1,25 @@
 -- `triples::seek_by_triples` meets its contract. All triples of lo's nodes, and the law that their hits are the candidates (`equal`).
-use Rattle.triples.proofs.Equal.{equal}
-use Rattle.triples.specs.Hits.{hits1, Open, Added, Span, addAll}
-use Rattle.seek.proofs.Searching.{input-base, none-sought}
-use Rattle.seek.proofs.Read.{set-fits, set-there, read-node, node-low}
-use Rattle.seek.specs.Candidates.{candidates, Ready, Sought}
-use Rattle.merge.specs.Runs.{rest}
-use Rattle.index.specs.Faces.{input, base, startOf, nodesOf, Indexed}
-use Rattle.index.specs.declared.Places.{Places}
-use Rattle.laws.specs.Merging.{region}
-use lib.Seq.{sets, length-take-le}
-use lib.ListN.{length, getD}
-use native.Mathlib.Omega.{arith}
 use Prim.Native.Nat.{ℕ, _+_, _-_, _≤_, _<_}
 use mathlib.Core.List.{List, []}
 use mathlib.Core.Bool.{false≢true}
 use mathlib.Core.Path.{_≡_, sym, ap, ap₂, _∙_}
+use native.Mathlib.Omega.{arith}
 use borrow.Author.Needs.{needs}
+use lib.Seq.{sets, length-take-le}
+use lib.ListN.{length, getD}
+use Rattle.laws.specs.Merging.{region}
+use Rattle.index.specs.declared.Places.{Places}
+use Rattle.index.specs.Faces.{input, base, startOf, nodesOf, Indexed}
+use Rattle.merge.specs.Runs.{rest}
+use Rattle.seek.specs.Candidates.{candidates, Ready, Sought}
+use Rattle.seek.proofs.Searching.{input-base, none-sought}
+use Rattle.seek.proofs.Read.{set-fits, set-there, read-node, node-low}
+use Rattle.triples.specs.Hits.{hits1, Open, Added, Span, addAll}
+use Rattle.triples.proofs.Equal.{equal}
 use Rattle.triples.proofs.seek_by_triples.Statement.{statement}
 use Rattle.triples.proofs.seek_by_triples.Tie as tie
 
+-- an empty list
 none-open : (p : Places) (lo : ℕ) (w : List ℕ) → Ready p lo w → Open p lo 0 w
 none-open p lo w r = record { ready = r; few = omega arith; asc = tt; low = λ x e. absurd (false≢true e) }
 
@@ -29,9 +30,11 @@ module _ (p : Places) (lo : ℕ) (w : List ℕ) (r : Ready p lo w) (s n : ℕ) (
   abbrev ix : Indexed p b
   ix = r .indexed
 
+  -- the nodes of lo lie below `found`
   within : s + n ≤ p .found
   within = omega (arith, set-fits p b ix lo (r .face), length-take-le (p .found) w (omega (arith, r .room)))
 
+  -- they are nodes
   span : Span p w s (s + n)
   span = record {
     within = within;
@@ -42,11 +45,13 @@ module _ (p : Places) (lo : ℕ) (w : List ℕ) (r : Ready p lo w) (s n : ℕ) (
         omega (arith, v, node-low p b ix lo j (r .face) l);
   }
 
+  -- all of them
   the-nodes : rest s (s + n) b ≡ nodesOf p (input p w) lo
   the-nodes =
       let d : s + n - s ≡ n = omega arith in
       ap₂ (λ (x k : ℕ). region x k b) is-s (d ∙ is-n) ∙ set-there p b ix lo (r .face) ∙ ap (λ (t : List ℕ). nodesOf p t lo) (input-base p w (r .below))
 
+  -- so what is added are the candidates
   sought : (m : ℕ) (v : List ℕ) → Added p (hits1 p (input p w) lo (rest s (s + n) b)) 0 w m v → Sought p lo w v m
   sought m v x =
       let e : addAll (hits1 p (input p w) lo (rest s (s + n) b)) [] ≡ candidates p (input p w) lo = ap (λ (l : List ℕ). addAll (hits1 p (input p w) lo l) []) the-nodes ∙ equal p (input p w) lo in

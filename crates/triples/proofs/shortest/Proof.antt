@@ -1,19 +1,21 @@
 -- `triples::shortest` meets its contract. Whichever is answered is one of the three.
-use Rattle.laws.specs.Lists.{elem}
-use Rattle.laws.proofs.Tests.{eqb-self}
-use Rattle.laws.proofs.Ascending.{head-in}
-use lib.Dec.{eqb}
 use Prim.Native.Nat.{ℕ}
 use mathlib.Core.List.{[], _∷_}
 use mathlib.Core.Bool.{Bool, true, false, _||_, or-true}
 use mathlib.Core.Path.{_≡_, ap, _∙_}
 use borrow.Author.Needs.{needs}
+use lib.Dec.{eqb}
+use Rattle.laws.specs.Lists.{elem}
+use Rattle.laws.proofs.Tests.{eqb-self}
+use Rattle.laws.proofs.Ascending.{head-in}
 use Rattle.triples.proofs.shortest.Statement.{statement}
 use Rattle.triples.proofs.shortest.Tie as tie
 
+-- the second of three
 second : (a b c : ℕ) → elem b (a ∷ b ∷ c ∷ []) ≡ true
 second a b c = ap (λ (x : Bool). eqb b a || (x || (eqb b c || false))) (eqb-self b) ∙ or-true (eqb b a)
 
+-- the third
 third : (a b c : ℕ) → elem c (a ∷ b ∷ c ∷ []) ≡ true
 third a b c = ap (λ (x : Bool). eqb c a || (eqb c b || (x || false))) (eqb-self c) ∙ ap (λ (x : Bool). eqb c a || x) (or-true (eqb c b)) ∙ or-true (eqb c a)
 

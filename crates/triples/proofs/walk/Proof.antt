@@ -1,19 +1,19 @@
 -- `triples::walk` meets its contract. A loop of Turns: the pieces are the hits among the faces.
+use Prim.Native.Nat.{ℕ, _-_, _≤_, _<_}
 use mathlib.Core.Path.{refl, ap₂, _∙_, subst}
 use mathlib.Core.List.{List, [], _∷_}
-use Prim.Native.Nat.{ℕ, _-_, _≤_, _<_}
 use native.Mathlib.Omega.{arith}
 use borrow.Author.Needs.{needs}
 use lib.Seq.{length-take-le}
+use Rattle.laws.specs.Lists.{keep, onlyIf}
+use Rattle.index.specs.declared.Places.{Places}
+use Rattle.index.specs.Faces.{input, base}
+use Rattle.merge.specs.Runs.{rest}
+use Rattle.triples.specs.Hits.{hit, Added}
+use Rattle.triples.proofs.Adds.{Prog}
+use Rattle.triples.proofs.Turns.{held-start, held-open, held-base, held-input, held-length, held-read, held-next, held-end, of-rest, faces-kept}
 use Rattle.triples.proofs.walk.Statement.{statement}
 use Rattle.triples.proofs.walk.Tie as tie
-use Rattle.triples.proofs.Adds.{Prog}
-use Rattle.triples.specs.Hits.{hit, Added}
-use Rattle.merge.specs.Runs.{rest}
-use Rattle.index.specs.Faces.{input, base}
-use Rattle.index.specs.declared.Places.{Places}
-use Rattle.laws.specs.Lists.{keep, onlyIf}
-use Rattle.triples.proofs.Turns.{held-start, held-open, held-base, held-input, held-length, held-read, held-next, held-end, of-rest, faces-kept}
 
 abbrev G : Places → List ℕ → (lo a b c : ℕ) → List ℕ → List ℕ
 G p w lo a b c l = keep (hit p (input p w) lo a b c) l
