@@ -22,7 +22,6 @@ use Rattle.findings.specs.Compared.{none, moved, endsFrom, withCells, re
 use Rattle.findings.specs.Demand3.{Reordering}
 use Rattle.mesh.specs.Model.{ascending}
 use Rattle.findings.proofs.Laws.{any-perm, length-snoc}
-
 use Rattle.mesh.proofs.Accepted.{face-count, ring-words}
 use Rattle.mesh.proofs.Accepts.{accepted-clear, cellWrong, Accepts, accepted}
 use Rattle.laws.proofs.Tables.{clear-append}
