@@ -1,0 +1,2 @@
+-- Reading back what was written.
+pub mod Back

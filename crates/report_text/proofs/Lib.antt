@@ -1,0 +1,2 @@
+-- What texts stored one behind the other make.
+pub mod Texts

@@ -1,0 +1,2 @@
+-- Text stored into a slice.
+pub mod Stored
