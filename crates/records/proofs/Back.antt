@@ -1,14 +1,17 @@
 -- The fields of a record are read back; a kind as four bytes; a lent part come back.
 use Prim.Native.Nat.{ℕ, _+_, _-_, _/_, _%_, _≤_, _<_}
-use mathlib.Core.Path.{_≡_, refl, sym, ap, _∙_}
+use mathlib.Core.Path.{_≡_, sym, ap, _∙_}
 use mathlib.Core.List.{List, [], _∷_, _++_, append-assoc}
+use native.Mathlib.Nat.{add-zero}
 use native.Mathlib.Omega.{arith}
-use lib.ListN.{length, take, drop, replicate}
-use lib.Seq.{sets, sets-eq, drop-drop}
+use lib.ListN.{length, getD, take, drop, replicate}
+use lib.Seq.{sets, sets-eq, drop-drop, getD-drop}
 use Rattle.laws.specs.Bytes.{number, bytes}
+use Rattle.laws.proofs.Stores.{slice-region}
 use Rattle.geometry.specs.declared.Point.{Point}
 use Rattle.findings.specs.Records.{Fields, recordBytes}
-use Rattle.records.specs.Read.{fieldsIn}
+use Rattle.findings.specs.Demand3.{Below}
+use Rattle.records.specs.Read.{word, fieldsIn}
 
 -- a number below 256 as four bytes: itself and three zeros
 pub one-of-four : (k : ℕ) → k < 256 → bytes 4 k ≡ k ∷ replicate 3 0
@@ -23,12 +26,27 @@ one-of-four k h =
 four-back : (n : ℕ) → n < 4294967296 → number (bytes 4 n) ≡ n
 four-back n h = omega arith
 
--- the fields read from a record's bytes are those it was written from
-pub fields-back : (f : Fields) (p : Point) → f .first < 4294967296 → f .second < 4294967296 → f .a < 4294967296 → f .b < 4294967296 → f .count < 4294967296
-    → fieldsIn (recordBytes f p) 0 ≡ f
+-- a word of what stands from a place on
+word-from : (s : List ℕ) (at k : ℕ) → word s (at + k) ≡ word (drop at s) k
+word-from s at k = ap number (slice-region (at + k) 4 s ∙ ap (take 4) (sym (drop-drop k at s)) ∙ sym (slice-region k 4 (drop at s)))
+
+-- the fields read at a place are those of what stands from there on
+fields-from : (s : List ℕ) (at : ℕ) → fieldsIn s at ≡ fieldsIn (drop at s) 0
+unfolding fieldsIn
+fields-from s at =
+    let k : getD s at 0 ≡ getD (drop at s) 0 0 = ap (λ (i : ℕ). getD s i 0) (sym (add-zero at)) ∙ sym (getD-drop at s 0 0) in
+    λ i. record { kind = k i; first = word-from s at 4 i; second = word-from s at 8 i; a = word-from s at 12 i; b = word-from s at 16 i; count = word-from s at 20 i }
+
+-- a record's bytes in front give its fields
+fields-front : (rest : List ℕ) (f : Fields) (p : Point) → Below 4294967296 f → fieldsIn (recordBytes f p ++ rest) 0 ≡ f
 unfolding fieldsIn recordBytes
-fields-back f p h1 h2 h3 h4 h5 =
-    λ i. record { kind = f .kind; first = four-back (f .first) h1 i; second = four-back (f .second) h2 i; a = four-back (f .a) h3 i; b = four-back (f .b) h4 i; count = four-back (f .count) h5 i }
+fields-front rest f p h =
+    λ i. record { kind = f .kind; first = four-back (f .first) (h .first) i; second = four-back (f .second) (h .second) i; a = four-back (f .a) (h .a) i; b = four-back (f .b) (h .b) i; count = four-back (f .count) (h .count) i }
+
+-- the fields read where a record's bytes stand are those it was written from
+pub fields-back : (s rest : List ℕ) (at : ℕ) (f : Fields) (p : Point) → drop at s ≡ recordBytes f p ++ rest → Below 4294967296 f → fieldsIn s at ≡ f
+fields-back s rest at f p e h =
+    fields-from s at ∙ ap (λ (l : List ℕ). fieldsIn l 0) e ∙ fields-front rest f p h
 
 -- 64 bytes lent out and come back are a run of stores
 pub lent-sets : (l new : List ℕ) (o : ℕ) → length new ≡ 64 → o + 64 ≤ length l → take o l ++ (new ++ drop (o + 64 - o) (drop o l)) ≡ sets l o new

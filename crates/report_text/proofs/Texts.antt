@@ -4,13 +4,12 @@ use mathlib.Core.Path.{_≡_, refl, sym, ap, _∙_, subst}
 use mathlib.Core.Bool.{Bool, true, false, cond}
 use mathlib.Core.List.{List, [], _∷_, _++_, append-assoc}
 use native.Mathlib.Nat.{add-zero}
-use native.Mathlib.Numerals.{add-one}
 use native.Mathlib.Omega.{arith}
 use lib.Dec.{ltb}
 use lib.ListN.{length, set, length-append}
 use lib.Seq.{sets}
 use borrow.Author.Tests.{lt-ltb, le-ltb}
-use Rattle.laws.proofs.Stores.{sets-append, sets-snoc}
+use Rattle.laws.proofs.Stores.{sets-append}
 use Rattle.report.specs.Text.{digitsTo}
 use Rattle.report_text.specs.Stored.{Stored}
 
@@ -35,7 +34,7 @@ in-front (suc k) n text = go (in-front k (n / 10)) (ltb n 10)
 
 -- no digits where none are asked for
 pub no-digit : (l : List ℕ) (at k n : ℕ) → k ≡ 0 → Stored l at (digitsTo k n []) l at
-no-digit l at k n e = let w = e in rw e (refl, sym (add-zero at))
+no-digit l at k n e = rw e (refl, sym (add-zero at))
 
 -- one digit where the number is below ten
 pub one-digit : (l : List ℕ) (at k n d : ℕ) → (k ≡ 0 → ⊥) → n < 10 → d ≡ 48 + n → Stored l at (digitsTo k n []) (set l at d) (at + 1)
