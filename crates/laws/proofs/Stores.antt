@@ -206,3 +206,11 @@ module _ {A : Type 0} where
       let b : 0 + length xs ≤ length w = omega arith in
       let z : 0 + length xs ≡ length xs = omega arith in
       rw (sets-eq xs w 0 b, z)
+
+  -- n elements lent out and come back are a run of stores
+  pub lent-sets : (n : ℕ) (l new : List A) (o : ℕ) → length new ≡ n → o + n ≤ length l → take o l ++ (new ++ drop (o + n - o) (drop o l)) ≡ sets l o new
+  lent-sets n l new o h k =
+      let e : o + (o + n - o) ≡ o + length new = omega arith in
+      sym (sets-eq new l o (omega arith)
+      ∙ append-assoc (take o l) new (drop (o + length new) l)
+      ∙ ap (λ (x : List A). take o l ++ (new ++ x)) (ap (λ (x : ℕ). drop x l) (sym e) ∙ sym (drop-drop (o + n - o) o l)))

@@ -1,12 +1,12 @@
 -- Runs of stores that write zeros, words and whole records.
 use Prim.Native.Nat.{ℕ, suc, _+_, _*_, _-_, _≤_, _<_}
 use mathlib.Core.Path.{_≡_, sym, ap, ap₂, _∙_}
-use mathlib.Core.List.{List, _∷_, _++_, append-assoc}
+use mathlib.Core.List.{List, _∷_, _++_}
 use native.Mathlib.Nat.{add-zero, sub-zero}
 use native.Mathlib.Numerals.{add-one}
 use native.Mathlib.Omega.{arith}
 use lib.ListN.{length, getD, take, drop, set, replicate}
-use lib.Seq.{sets, sets-eq, drop-cons, drop-drop}
+use lib.Seq.{sets, drop-cons}
 use lib.Ieee.{Float}
 use Rattle.laws.specs.Bytes.{bytes}
 use Rattle.laws.proofs.Stores.{sets-append, sets-all}
@@ -74,9 +74,3 @@ word-put r l1 l2 ws l k n e small e1 e2 h =
     ∙ sym (sets-append heads 4 (wordBytes ws) (replicate (28 - 2 * length ws) 0))
     ∙ ap (λ (x : ℕ). sets r 0 (l ∷ k ∷ x ∷ 0 ∷ (wordBytes ws ++ replicate (28 - 2 * length ws) 0))) e
     ∙ sets-all r (wordRecord l k ws) (word-length l k ws (omega arith) ∙ sym h)
-
--- a record lent out of the bytes and come back is a run of stores
-pub lent-sets : (l new : List ℕ) (o : ℕ) → length new ≡ 32 → o + 32 ≤ length l → take o l ++ (new ++ drop (o + 32 - o) (drop o l)) ≡ sets l o new
-lent-sets l new o h k =
-    let e : o + (o + 32 - o) ≡ o + length new = omega arith in
-    sym (sets-eq new l o (omega arith) ∙ append-assoc (take o l) new (drop (o + length new) l) ∙ ap (λ (x : List ℕ). take o l ++ (new ++ x)) (ap (λ (x : ℕ). drop x l) (sym e) ∙ sym (drop-drop (o + 32 - o) o l)))

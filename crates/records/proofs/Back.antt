@@ -1,11 +1,11 @@
--- The fields of a record are read back; a kind as four bytes; a lent part come back.
-use Prim.Native.Nat.{ℕ, _+_, _-_, _/_, _%_, _≤_, _<_}
+-- The fields of a record are read back; a kind as four bytes.
+use Prim.Native.Nat.{ℕ, _+_, _/_, _%_, _<_}
 use mathlib.Core.Path.{_≡_, sym, ap, _∙_}
-use mathlib.Core.List.{List, [], _∷_, _++_, append-assoc}
+use mathlib.Core.List.{List, [], _∷_, _++_}
 use native.Mathlib.Nat.{add-zero}
 use native.Mathlib.Omega.{arith}
-use lib.ListN.{length, getD, take, drop, replicate}
-use lib.Seq.{sets, sets-eq, drop-drop, getD-drop}
+use lib.ListN.{getD, take, drop, replicate}
+use lib.Seq.{drop-drop, getD-drop}
 use Rattle.laws.specs.Bytes.{number, bytes}
 use Rattle.laws.proofs.Stores.{slice-region}
 use Rattle.geometry.specs.declared.Point.{Point}
@@ -47,11 +47,3 @@ fields-front rest f p h =
 pub fields-back : (s rest : List ℕ) (at : ℕ) (f : Fields) (p : Point) → drop at s ≡ recordBytes f p ++ rest → Below 4294967296 f → fieldsIn s at ≡ f
 fields-back s rest at f p e h =
     fields-from s at ∙ ap (λ (l : List ℕ). fieldsIn l 0) e ∙ fields-front rest f p h
-
--- 64 bytes lent out and come back are a run of stores
-pub lent-sets : (l new : List ℕ) (o : ℕ) → length new ≡ 64 → o + 64 ≤ length l → take o l ++ (new ++ drop (o + 64 - o) (drop o l)) ≡ sets l o new
-lent-sets l new o h k =
-    let e : o + (o + 64 - o) ≡ o + length new = omega arith in
-    sym (sets-eq new l o (omega arith)
-    ∙ append-assoc (take o l) new (drop (o + length new) l)
-    ∙ ap (λ (x : List ℕ). take o l ++ (new ++ x)) (ap (λ (x : ℕ). drop x l) (sym e) ∙ sym (drop-drop (o + 64 - o) o l)))

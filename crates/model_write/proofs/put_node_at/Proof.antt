@@ -4,7 +4,7 @@ use mathlib.Core.Path.{refl, ap, _∙_}
 use lib.ListN.{take, drop}
 use borrow.Author.Needs.{needs}
 use Rattle.model_file.specs.Records.{nodeRecord}
-use Rattle.model_write.proofs.Putting.{lent-sets}
+use Rattle.laws.proofs.Stores.{lent-sets}
 use Rattle.model_write.proofs.put_node_at.Statement.{statement}
 use Rattle.model_write.proofs.put_node_at.Tie as tie
 
@@ -32,7 +32,7 @@ returns c =
     let a = b .args in
     let o = a .out .now in
     ap (λ (x : List ℕ). take (a .at) o ++ (x ++ drop (a .at + 32 - a .at) (drop (a .at) o))) (c .before .before .put-node .ensures)
-    ∙ lent-sets o (nodeRecord (a .x) (a .y) (a .z)) (a .at) (refl) (b .pre)
+    ∙ lent-sets 32 o (nodeRecord (a .x) (a .y) (a .z)) (a .at) (refl) (b .pre)
 
 pub put-node-at-spec : {M : Type 1} → statement M
 put-node-at-spec =

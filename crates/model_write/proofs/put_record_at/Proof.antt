@@ -6,7 +6,7 @@ use lib.ListN.{take, drop, length-take}
 use borrow.Author.Needs.{needs}
 use Rattle.model_file.specs.Records.{wordRecord}
 use Rattle.model_file.proofs.Layouts.{word-length}
-use Rattle.model_write.proofs.Putting.{lent-sets}
+use Rattle.laws.proofs.Stores.{lent-sets}
 use Rattle.model_write.proofs.put_record_at.Statement.{statement}
 use Rattle.model_write.proofs.put_record_at.Tie as tie
 
@@ -34,7 +34,7 @@ returns c =
     let a = b .args in
     let o = a .out .now in
     ap (λ (x : List ℕ). take (a .at) o ++ (x ++ drop (a .at + 32 - a .at) (drop (a .at) o))) (c .before .before .put-record .ensures)
-    ∙ lent-sets o (wordRecord (a .letter) (a .kind) (take (a .n) (drop (a .from) (a .words .now)))) (a .at) (word-length (a .letter) (a .kind) (take (a .n) (drop (a .from) (a .words .now))) (omega (arith, length-take (a .n) (drop (a .from) (a .words .now)), b .pre .2))) (b .pre .0)
+    ∙ lent-sets 32 o (wordRecord (a .letter) (a .kind) (take (a .n) (drop (a .from) (a .words .now)))) (a .at) (word-length (a .letter) (a .kind) (take (a .n) (drop (a .from) (a .words .now))) (omega (arith, length-take (a .n) (drop (a .from) (a .words .now)), b .pre .2))) (b .pre .0)
 
 pub put-record-at-spec : {M : Type 1} → statement M
 put-record-at-spec =

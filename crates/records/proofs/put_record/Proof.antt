@@ -5,7 +5,7 @@ use lib.ListN.{take, drop}
 use mathlib.Core.List.{List, _++_}
 use mathlib.Core.Path.{refl, ap, _∙_}
 use Rattle.findings.specs.Records.{recordBytes}
-use Rattle.records.proofs.Back.{lent-sets}
+use Rattle.laws.proofs.Stores.{lent-sets}
 use Rattle.records.specs.Read.{told}
 use Rattle.records.proofs.put_record.Statement.{statement}
 use Rattle.records.proofs.put_record.Tie as tie
@@ -35,7 +35,7 @@ returns c =
     let a = b .args in
     let o = a .out .now in
     ap (λ (x : List ℕ). take (a .at) o ++ (x ++ drop (a .at + 64 - a .at) (drop (a .at) o))) (c .before .before .put-whole .ensures)
-    ∙ lent-sets o (recordBytes (told (a .r)) (a .centre)) (a .at) refl (b .pre)
+    ∙ lent-sets 64 o (recordBytes (told (a .r)) (a .centre)) (a .at) refl (b .pre)
 
 pub put-record-spec : {M : Type 1} → statement M
 put-record-spec =
