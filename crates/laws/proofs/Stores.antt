@@ -1,4 +1,4 @@
--- A run of stores, `sets l o xs`: how it grows by one, and what is read after it. No law but the last asks that the run is within the list.
+-- A run of stores, `sets l o xs`: how it grows by one, and what is read after it. A law asks that the run is within the list only where it must.
 use mathlib.Core.Path.{_≡_, refl, sym, ap, _∙_}
 use mathlib.Core.List.{List, [], _∷_, _++_, append-assoc, append-nil}
 use Prim.Native.Nat.{ℕ, zero, suc, _+_, _-_, _≤_, _<_}
