@@ -1,6 +1,6 @@
 -- The public operation's refusals, row by row, and what a list that is not refused says of its numbers.
-use mathlib.Core.Path.{_≡_, refl, ap, _∙_}
-use mathlib.Core.Bool.{Bool, true, false, not, _&&_, _||_, or-true, true≢false}
+use mathlib.Core.Path.{_≡_, ap, _∙_}
+use mathlib.Core.Bool.{Bool, true, false, not, _&&_, _||_, or-true}
 use mathlib.Core.List.{List, [], _∷_}
 use Prim.Native.Nat.{ℕ, zero, suc, _+_, _/_, _<_, _≤_}
 use native.Mathlib.Numerals.{add-one}
@@ -12,6 +12,7 @@ use lib.Ieee.{Float}
 use borrow.Author.Tests.{le-leb, lt-leb, leb-false}
 use Rattle.laws.specs.Lists.{any}
 use Rattle.laws.specs.Refusals.{Answer, refused, done, refusal, answer}
+use Rattle.laws.proofs.Tests.{or-none}
 use Rattle.geometry.specs.Steps.{InNodes}
 use Rattle.area.specs.declared.Area.{Area}
 use Rattle.area.specs.AreaTest.{ascendsFrom, listOff}
@@ -72,22 +73,17 @@ module _ (n m : ℕ) (ks : List ℕ) (i : ℕ) where
   pub off-end : length ks ≤ i → offFrom n m (drop i ks) ≡ false
   off-end h = ap (offFrom n m) (drop-of-length-le ks h)
 
--- none of two
-neither : (a b : Bool) → (a || b) ≡ false → (a ≡ false) × (b ≡ false)
-neither true b e = absurd (true≢false e)
-neither false b e = (refl, e)
-
 -- each number is below n
 below : (n : ℕ) (ks : List ℕ) (i : ℕ) → any (λ k. leb n k) ks ≡ false → i < length ks → getD ks i 0 < n
 below n [] i e h = absurd (no h)
   where
     no : i < 0 → ⊥
     no h = omega arith
-below n (k ∷ ks) zero e h = leb-false n k (neither (leb n k) (any (λ k. leb n k) ks) e .0)
-below n (k ∷ ks) (suc i) e h = below n ks i (neither (leb n k) (any (λ k. leb n k) ks) e .1) (omega arith)
+below n (k ∷ ks) zero e h = leb-false n k (or-none (leb n k) (any (λ k. leb n k) ks) e .0)
+below n (k ∷ ks) (suc i) e h = below n ks i (or-none (leb n k) (any (λ k. leb n k) ks) e .1) (omega arith)
 
 -- so a list that is not off holds nodes
 pub in-nodes : (c : List Float) (ks : List ℕ) → listOff (length c / 3) ks ≡ false → InNodes c ks
 in-nodes c ks e i h =
-    let b : getD ks i 0 < length c / 3 = below (length c / 3) ks i (neither (not (ascendsFrom 0 ks)) (any (λ k. leb (length c / 3) k) ks) e .1) h in
+    let b : getD ks i 0 < length c / 3 = below (length c / 3) ks i (or-none (not (ascendsFrom 0 ks)) (any (λ k. leb (length c / 3) k) ks) e .1) h in
     omega arith

@@ -14,10 +14,11 @@ use Rattle.laws.proofs.Tests.{eqb-self, split}
 use Rattle.laws.proofs.ListLaws.{each-append}
 use Rattle.mesh.specs.Model.{Raw, contains, TOPOLOGY}
 use Rattle.mesh.specs.Rings.{Cell, Face, facesOf, faces, numberFrom, numbered}
+use Rattle.mesh.proofs.Accepted.{rings-from}
 use Rattle.findings.specs.Findings.{Rules, Finding, bowtie, overfull, partly, repeated, overOf, overAt, partlyOf, pairAt, kind1, kind2, kind3, kind4, full}
 use Rattle.findings.specs.Compared.{none, shares, both, namesPair}
 use Rattle.findings.proofs.Laws.{occupied}
-use Rattle.findings.proofs.Faces.{rings-of, meeting-occupied}
+use Rattle.findings.proofs.Faces.{meeting-occupied}
 use Rattle.findings.proofs.Reorder.{shares-comm}
 
 -- how many pass
@@ -120,7 +121,7 @@ module _ (R : Rules) (i j : ℕ) where
   -- two cells give one finding where they share, under their names
   one-pair : (a b : Cell) → count (namesPair i j) (pairAt R a b) ≡ cond (both i j (a .num) (b .num) && shares R (a .raw) (b .raw)) 1 0
   unfolding pairAt shares facesOf
-  one-pair a b = simp (count-onlyIf, one-first, meeting-occupied, rings-of) (cond-and (not (R .bow (a .raw)) && not (R .bow (b .raw))) (both i j (a .num) (b .num)) _)
+  one-pair a b = simp (count-onlyIf, one-first, meeting-occupied, rings-from) (cond-and (not (R .bow (a .raw)) && not (R .bow (b .raw))) (both i j (a .num) (b .num)) _)
 
   -- and none under other names
   zero-pair : (a b : Cell) → both i j (a .num) (b .num) ≡ false → count (namesPair i j) (pairAt R a b) ≡ 0

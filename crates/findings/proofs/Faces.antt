@@ -14,12 +14,6 @@ use Rattle.mesh.specs.Lookup.{noFace, faceAt}
 use Rattle.findings.specs.Findings.{Rules, meets, meeting, overAt, kind2}
 use Rattle.findings.proofs.Laws.{occupied, occupied-onlyIf, occupied-each}
 
--- the rings of a cell's faces are the cell's rings
-pub rings-of : (c n : ℕ) (rs : List (List ℕ)) → map (λ f. f .ring) (facesFrom c n rs) ≡ rs
-unfolding facesFrom
-rings-of c n [] = refl
-rings-of c n (r ∷ rs) = ap (λ (l : List (List ℕ)). r ∷ l) (rings-of c (suc n) rs)
-
 -- a cell has as many faces as rings
 pub length-from : (c n : ℕ) (rs : List (List ℕ)) → length (facesFrom c n rs) ≡ length rs
 unfolding facesFrom

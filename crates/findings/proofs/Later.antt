@@ -11,10 +11,10 @@ use Rattle.laws.specs.Lists.{onlyIf, any, each, walk, keep, sort, eql}
 use Rattle.laws.proofs.Tests.{tested, eqb-self}
 use Rattle.laws.proofs.ListLaws.{each-append, walk-append, any-append, any-map, keep-append, eql-self}
 use Rattle.mesh.specs.Rings.{Cell, Face, facesFrom, facesOf, faces, sameKey}
+use Rattle.mesh.proofs.Accepted.{rings-from}
 use Rattle.findings.specs.Findings.{Rules, Finding, repeated, overOf, overAt, partlyOf, pairAt, kind1, kind2, kind3, kind4, full}
 use Rattle.findings.specs.Later.{upTo, away}
 use Rattle.findings.proofs.Laws.{onlyIf-nil, keep-nothing, Every, every-map}
-use Rattle.findings.proofs.Faces.{rings-of}
 use Rattle.findings.proofs.ByKind.{every-pair}
 
 -- ---- one element at a time
@@ -113,7 +113,7 @@ module _ (R : Rules) (c : Cell) where
   -- so it has where some face of c has its key
   hit-faces : (f : Face) → any (sameKey f) (facesOf (R .rings) c) ≡ hit f
   unfolding sameKey facesOf
-  hit-faces f = sym (any-map (λ r. eql (sort leb (f .ring)) (sort leb r)) (λ g. g .ring) (facesFrom (c .num) (c .from) (R .rings (c .raw)))) ∙ simp rings-of
+  hit-faces f = sym (any-map (λ r. eql (sort leb (f .ring)) (sort leb r)) (λ g. g .ring) (facesFrom (c .num) (c .from) (R .rings (c .raw)))) ∙ simp rings-from
 
   -- an overfull face with a key of c's does not pass
   over-hit : (a : List Face) (f : Face) (b : List Face) → hit f ≡ true → keep t (overAt a f b) ≡ []

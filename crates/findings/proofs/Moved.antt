@@ -1,9 +1,9 @@
 -- A reordered model: its cells, that it is accepted, and the work that it needs.
-use Prim.Native.Nat.{ℕ, suc, _+_, _-_, _≤_}
+use Prim.Native.Nat.{ℕ, suc, _+_, _-_}
 use mathlib.Core.Path.{_≡_, refl, sym, ap, ap₂, _∙_}
 use mathlib.Core.Logic.{∥∥₁-elim}
 use mathlib.Core.Bool.{Bool, false, Bool-set}
-use mathlib.Core.List.{List, [], _∷_, _++_, map, append-assoc, map-append, List·Permᴰ, List·Permᴰ·trans}
+use mathlib.Core.List.{List, [], _∷_, _++_, map, append-assoc, List·Permᴰ, List·Permᴰ·trans}
 use native.Mathlib.Nat.{ℕ-set}
 use native.Mathlib.Omega.{arith}
 use borrow.Author.Tests.{ltb-false, le-ltb, eqb-true, eq-eqb, not-false}
@@ -12,16 +12,16 @@ use lib.ListN.{length, getD, take, drop, length-map, length-append, length-drop,
 use lib.Seq.{getD-append-seam, take-append-seam, drop-append-seam}
 use Rattle.laws.specs.Lists.{any, each, upFrom}
 use Rattle.laws.specs.Refusals.{refusal}
-use Rattle.laws.proofs.ListLaws.{each-map}
 use Rattle.laws.proofs.Permutations.{perm-eq, perm-each, perm-map, perm-length}
 use Rattle.geometry.specs.Coordinates.{nodeCount}
 use Rattle.mesh.specs.Model.{Model, Raw, cellsFrom, cellsOf}
-use Rattle.mesh.specs.Rings.{Face, ringsOf, facesOf, faces, numberFrom, numbered, ringWords}
+use Rattle.mesh.specs.Rings.{ringsOf, ringWords}
 use Rattle.mesh.specs.Acceptance.{endsOff, facesIn, workNeeded, modelTable}
 use Rattle.findings.specs.Compared.{none, moved, endsFrom, withCells, reordered}
 use Rattle.findings.specs.Demand3.{Reordering}
 use Rattle.mesh.specs.Model.{ascending}
 use Rattle.findings.proofs.Laws.{any-perm, length-snoc}
+use Rattle.mesh.proofs.CellTallies.{ends-most}
 use Rattle.mesh.proofs.Accepted.{face-count, ring-words}
 use Rattle.mesh.proofs.Accepts.{accepted-clear, cellWrong, Accepts, accepted}
 use Rattle.laws.proofs.Tables.{clear-append}
@@ -37,11 +37,6 @@ round-cells at (c ∷ cs) =
     rw (n, take-append-seam (c .words) (each (λ c. c .words) cs), drop-append-seam (c .words) (each (λ c. c .words) cs))
     (ap (λ (l : List Raw). c ∷ l) (round-cells (at + length (c .words)) cs))
 
--- ends that are right go up to the number of words
-ends-le : (at : ℕ) (es : List ℕ) (n : ℕ) → endsOff at es n ≡ false → at ≤ n
-ends-le at [] n e = omega (arith, eqb-true at n (not-false (eqb at n) e))
-ends-le at (e ∷ es) n h = let p = or-none (ltb e at) (endsOff e es n) h in omega (arith, ltb-false e at (p .0), ends-le e es n (p .1))
-
 -- the words of cells read are the words
 round-words : (at : ℕ) (ks es ws : List ℕ) → length ks ≡ length es → endsOff at es (at + length ws) ≡ false → each (λ c. c .words) (cellsFrom at ks es ws) ≡ ws
 round-words at [] [] [] l h = refl
@@ -51,7 +46,7 @@ round-words at (k ∷ ks) [] ws l h = absurd (omega arith)
 round-words at (k ∷ ks) (e ∷ es) ws l h =
     let p = or-none (ltb e at) (endsOff e es (at + length ws)) h in
     let n : at + length ws ≡ e + length (drop (e - at) ws) =
-    omega (arith, length-drop (e - at) ws, ltb-false e at (p .0), ends-le e es (at + length ws) (p .1)) in
+    omega (arith, length-drop (e - at) ws, ltb-false e at (p .0), ends-most e es (at + length ws) (p .1)) in
     ap (λ (r : List ℕ). take (e - at) ws ++ r) (round-words e ks es (drop (e - at) ws) (omega arith) (ap (endsOff e es) (sym n) ∙ p .1))
     ∙ take-append-drop (e - at) ws
 

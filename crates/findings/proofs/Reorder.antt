@@ -14,11 +14,12 @@ use Rattle.laws.proofs.Sorting.{by-number, insert-swap}
 use Rattle.laws.proofs.Permutations.{perm-ind, perm-eq, perm-append, perm-left-comm, perm-each, perm-map, pairs, perm-pairs, perm-length, sort-perm}
 use Rattle.mesh.specs.Model.{Raw, contains, TOPOLOGY, BUTTERFLY}
 use Rattle.mesh.specs.Rings.{Cell, Face, facesFrom, facesOf, faces, numberFrom, numbered, sameKey}
+use Rattle.mesh.proofs.Accepted.{rings-from}
 use Rattle.findings.specs.Findings.{Rules, bowtie, repeated, meets, overOf, overAt, partlyOf, pairAt, kind1, kind2, kind3, kind4, full}
 use Rattle.findings.specs.Compared.{none, shares, Compared, bowtieC, overfullC, partlyC, repeatedC, compared, moved}
 use Rattle.findings.proofs.Laws.{occupied, length-snoc}
 use Rattle.findings.proofs.Nodes.{meets-comm}
-use Rattle.findings.proofs.Faces.{rings-of, meeting-occupied, face-walk}
+use Rattle.findings.proofs.Faces.{meeting-occupied, face-walk}
 
 -- ---- what is compared, from the cells' names, kinds and words alone: no cell number, no face number, no order in a pair
 
@@ -101,7 +102,7 @@ module _ (R : Rules) (ρ : ℕ → ℕ) where
   -- the pair of two cells
   pair-part : (a b : Cell) → map (compared R ρ) (pairAt R a b) ≡ pairN R (named a) (named b)
   unfolding pairAt shares facesOf
-  pair-part a b = simp (map-onlyIf, first-part, meeting-occupied, rings-of, onlyIf-and)
+  pair-part a b = simp (map-onlyIf, first-part, meeting-occupied, rings-from, onlyIf-and)
 
   -- kind 3
   pairs-part : (pre cs : List Cell) → map (compared R ρ) (walk (kind3 R) pre cs) ≡ pairs (pairN R) (map named cs)

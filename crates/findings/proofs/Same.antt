@@ -1,13 +1,11 @@
 -- The record of a finding settles the finding: two of one full list with the same bytes are the same.
-use Prim.Native.Nat.{ℕ, zero, suc, _+_, _*_, _/_, _%_, _^_, _<_}
+use Prim.Native.Nat.{ℕ, _+_, _<_}
 use mathlib.Core.Path.{_≡_, refl, sym, ap, _∙_}
 use mathlib.Core.List.{List, _++_}
-use native.Mathlib.Nat.{div-lt-iff-lt-mul, pow-suc}
-use native.Mathlib.Omega.{arith}
-use lib.Dec.{lit<}
-use lib.ListN.{length, getD, take, drop, replicate}
+use lib.ListN.{getD, take, drop, replicate}
 use lib.Seq.{take-at, drop-at}
 use Rattle.laws.specs.Bytes.{number, bytes}
+use Rattle.laws.proofs.ByteLaws.{number-bytes, length-bytes}
 use Rattle.geometry.specs.declared.Point.{Point}
 use Rattle.mesh.specs.Rings.{Face}
 use Rattle.findings.specs.Findings.{Rules, Finding, bowtie, overfull, partly, repeated}
@@ -15,18 +13,6 @@ use Rattle.findings.specs.Records.{Fields, fieldsOf, centreIn, pointByte
 use Rattle.findings.specs.Demand3.{Told, readBack, Below}
 
 -- ---- bytes
-
--- a number below 256^k is read from its k bytes
-number-bytes : (k n : ℕ) → n < 256 ^ k → number (bytes k n) ≡ n
-number-bytes zero n h = omega arith
-number-bytes (suc k) n h =
-    let d : n / 256 < 256 ^ k = div-lt-iff-lt-mul {k = 256} {x = n} {y = 256 ^ k} (lit< tt) .1 (rw pow-suc at h) in
-    ap (λ (m : ℕ). n % 256 + 256 * m) (number-bytes k (n / 256) d) ∙ omega arith
-
--- so many bytes
-length-bytes : (k n : ℕ) → length (bytes k n) ≡ k
-length-bytes zero n = refl
-length-bytes (suc k) n = ap suc (length-bytes k (n / 256))
 
 -- equal bytes in front of equal rests
 peel : (k a b : ℕ) (s t : List ℕ) → bytes k a ++ s ≡ bytes k b ++ t → (bytes k a ≡ bytes k b) × (s ≡ t)

@@ -1,10 +1,10 @@
 -- Candidates of a face, and which way they are sought.
-use Prim.Native.Nat.{ℕ, _+_, _-_, _*_, _/_}
+use Prim.Native.Nat.{ℕ, _*_}
 use mathlib.Core.Bool.{Bool, not, _&&_}
-use mathlib.Core.List.{List, [], _∷_, map}
+use mathlib.Core.List.{List, map}
 use lib.Dec.{leb, ltb, eqb}
 use lib.ListN.{length}
-use Rattle.laws.specs.Lists.{any, keep, elem, upFrom}
+use Rattle.laws.specs.Lists.{any, keep, elem, upFrom, sum, pairsOf, triplesOf}
 use Rattle.mesh.specs.Rings.{Cell, Face, faces, nodeSet}
 use Rattle.findings.specs.Findings.{Rules, sharing}
 
@@ -24,17 +24,6 @@ module _ (R : Rules) where
   candidates cs f = keep (candidate cs f) (faces (R .rings) cs)
 
 -- ---- which way is taken
-
-abbrev pub sum : List ℕ → ℕ
-sum [] = 0
-sum (x ∷ xs) = x + sum xs
-
--- pairs of n things, and triples
-abbrev pub pairsOf : ℕ → ℕ
-pairsOf n = n * (n - 1) / 2
-
-abbrev pub triplesOf : ℕ → ℕ
-triplesOf n = n * (n - 1) * (n - 2) / 6
 
 -- the faces whose node set has n
 abbrev pub facesWith : ℕ → List Face → List Face

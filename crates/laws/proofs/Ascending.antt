@@ -67,6 +67,14 @@ asc-keep p (x ∷ xs) h = go (asc-keep p xs (h .1)) (tested (p x))
 pub head-in : (x : ℕ) (l : List ℕ) → elem x (x ∷ l) ≡ true
 head-in x l = rw (eqb-self x)
 
+-- and so are the members of the rest
+pub later-in : (x : ℕ) (l : List ℕ) (y : ℕ) → elem y l ≡ true → elem y (x ∷ l) ≡ true
+later-in x l y e = go (eqb y x)
+  where
+    go : (b : Bool) → (b || elem y l) ≡ true
+    go true = refl
+    go false = e
+
 pub above-out : (x : ℕ) (l : List ℕ) → Above x l → elem x l ≡ false
 above-out x l h = ⊎-elim (λ e. absurd (omega (arith, h x e))) (λ e. e) (tested (elem x l))
 
@@ -98,14 +106,7 @@ asc-ext (x ∷ xs) (y ∷ ys) h k e = ap₂ (λ (z : ℕ) (zs : List ℕ). z ∷
 pub keep-cong : (p q : ℕ → Bool) (l : List ℕ) → ((x : ℕ) → elem x l ≡ true → p x ≡ q x) → keep p l ≡ keep q l
 keep-cong p q [] h = refl
 keep-cong p q (x ∷ l) h =
-    ap₂ (λ (b : Bool) (r : List ℕ). onlyIf b (x ∷ []) ++ r) (h x (head-in x l)) (keep-cong p q l (λ y e. h y (later y e)))
-  where
-    later : (y : ℕ) → elem y l ≡ true → elem y (x ∷ l) ≡ true
-    later y e = go (eqb y x)
-      where
-        go : (b : Bool) → (b || elem y l) ≡ true
-        go true = refl
-        go false = e
+    ap₂ (λ (b : Bool) (r : List ℕ). onlyIf b (x ∷ []) ++ r) (h x (head-in x l)) (keep-cong p q l (λ y e. h y (later-in x l y e)))
 
 pub keep-none : (p : ℕ → Bool) (l : List ℕ) → ((x : ℕ) → elem x l ≡ true → p x ≡ false) → keep p l ≡ []
 keep-none p l h = keep-cong p (λ x. false) l h ∙ none l

@@ -7,3 +7,4 @@ pub mod Permutations
 pub mod Stores
 pub mod Tables
 pub mod Bounds
+pub mod ByteLaws

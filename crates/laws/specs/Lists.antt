@@ -1,8 +1,8 @@
 -- Lists and tests that compute.
-use Prim.Native.Nat.{ℕ, zero, suc}
+use Prim.Native.Nat.{ℕ, zero, suc, _+_, _-_, _*_, _/_}
 use mathlib.Core.Bool.{Bool, true, false, _&&_, _||_, cond}
 use mathlib.Core.List.{List, [], _∷_, _++_}
-use lib.Dec.{leb, eqb}
+use lib.Dec.{eqb}
 
 module _ {ℓ} {A : Type ℓ} where
   -- l where the test passes, else nothing
@@ -78,3 +78,16 @@ eql (x ∷ xs) (y ∷ ys) = eqb x y && eql xs ys
 abbrev pub upFrom : ℕ → ℕ → List ℕ
 upFrom i zero = []
 upFrom i (suc n) = i ∷ upFrom (suc i) n
+
+-- the sum of a list
+abbrev pub sum : List ℕ → ℕ
+sum [] = 0
+sum (x ∷ xs) = x + sum xs
+
+-- pairs of n things
+abbrev pub pairsOf : ℕ → ℕ
+pairsOf n = n * (n - 1) / 2
+
+-- triples of n things
+abbrev pub triplesOf : ℕ → ℕ
+triplesOf n = n * (n - 1) * (n - 2) / 6

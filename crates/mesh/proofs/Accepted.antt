@@ -1,24 +1,23 @@
 -- The table of a model, row by row; and its faces by its cells.
-use Prim.Native.Nat.{ℕ, zero, suc, _+_, _*_, _≤_, _<_}
+use Prim.Native.Nat.{ℕ, suc, _+_, _≤_, _<_}
 use mathlib.Core.Path.{_≡_, refl, sym, ap, ap₂, _∙_}
 use mathlib.Core.Logic.{_≢_}
-use mathlib.Core.Bool.{Bool, true, false, not, _||_}
-use mathlib.Core.List.{List, [], _∷_, _++_, map}
+use mathlib.Core.Bool.{true, false, not, _||_}
+use mathlib.Core.List.{List, [], _∷_, _++_, map, map-append}
 use native.Mathlib.Omega.{arith}
 use borrow.Author.Tests.{ltb-false, eqb-true, not-false, lt-ltb, le-ltb, eq-eqb, ne-eqb}
 use lib.Dec.{ltb, eqb}
-use lib.ListN.{length, length-append}
+use lib.ListN.{length}
 use Rattle.laws.specs.Lists.{each}
 use Rattle.laws.specs.Limits.{cellLimit, wordLimit, flagLimit}
 use Rattle.laws.specs.Refusals.{refusal}
-use Rattle.laws.proofs.ListLaws.{each-append}
 use Rattle.laws.proofs.Tables.{Numbered, numbered-append, refusal-first, refusal-second}
 use Rattle.laws.proofs.Tests.{or-none}
 use Rattle.geometry.specs.Coordinates.{nodeCount, countOff, toleranceOff, coordinatesOff}
 use Rattle.mesh.specs.Model.{Model, Raw, cellsOf}
 use Rattle.mesh.specs.Rings.{Face, ringsOf, facesFrom, numberFrom, numbered, facesOf, faces, ringWords}
-use Rattle.mesh.specs.Acceptance.{endsOff, shapeOff, cellTable, cellsTable, modelTable, modelRefusal, facesIn}
-use Rattle.mesh.specs.Steps.{ringTotal, CellsCounted, ModelCounted}
+use Rattle.mesh.specs.Acceptance.{endsOff, shapeOff, cellTable, cellsTable, modelRefusal, facesIn}
+use Rattle.mesh.specs.Steps.{CellsCounted, ModelCounted}
 use Rattle.mesh.specs.declared.CellTally.{CellTally}
 use Rattle.mesh.proofs.CellTallies.{nine}
 
@@ -108,20 +107,18 @@ no-row m b z f = rows10 m b z ∙ rw (le-ltb flagLimit (m .flags) f)
 
 -- ---- faces by cells
 
-rings-from : (c n : ℕ) (rs : List (List ℕ)) → map (λ f. f .ring) (facesFrom c n rs) ≡ rs
+-- the rings of a cell's faces are the cell's rings
+pub rings-from : (c n : ℕ) (rs : List (List ℕ)) → map (λ f. f .ring) (facesFrom c n rs) ≡ rs
 unfolding facesFrom
 rings-from c n [] = refl
 rings-from c n (r ∷ rs) = ap (λ (l : List (List ℕ)). r ∷ l) (rings-from c (suc n) rs)
 
-map-over : (a b : List Face) → map (λ f. f .ring) (a ++ b) ≡ map (λ f. f .ring) a ++ map (λ f. f .ring) b
-map-over [] b = refl
-map-over (f ∷ a) b = ap (λ (l : List (List ℕ)). f .ring ∷ l) (map-over a b)
-
+-- the rings of all faces are those of the cells
 pub rings-numbered : (i n : ℕ) (cs : List Raw) → map (λ f. f .ring) (faces ringsOf (numberFrom ringsOf i n cs)) ≡ each ringsOf cs
 unfolding numberFrom faces facesOf
 rings-numbered i n [] = refl
 rings-numbered i n (c ∷ cs) =
-    map-over (facesFrom i n (ringsOf c)) (faces ringsOf (numberFrom ringsOf (suc i) (n + length (ringsOf c)) cs))
+    map-append (λ (f : Face). f .ring) (facesFrom i n (ringsOf c)) (faces ringsOf (numberFrom ringsOf (suc i) (n + length (ringsOf c)) cs))
     ∙ ap₂ (λ (a b : List (List ℕ)). a ++ b) (rings-from i n (ringsOf c)) (rings-numbered (suc i) (n + length (ringsOf c)) cs)
 
 -- the rings of a model's faces are those of its cells, in order

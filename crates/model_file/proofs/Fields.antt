@@ -10,10 +10,11 @@ use lib.Dec.{eqb}
 use borrow.Author.Tests.{eqb-true, ne-eqb}
 use Rattle.laws.specs.Bytes.{number, bytes}
 use Rattle.laws.proofs.Tests.{tested}
+use Rattle.laws.proofs.ByteLaws.{number-bytes}
 use Rattle.mesh.specs.Rings.{separator}
 use Rattle.model_file.specs.Records.{narrow, widen, wordBytes, wordsAt}
 use Rattle.model_file.specs.Held.{All, Byte}
-use Rattle.model_file.proofs.Numbers.{number-bytes, bytes-number}
+use Rattle.model_file.proofs.Numbers.{bytes-number}
 
 -- a word that 16 bits can hold: a node's number, or the separator
 abbrev pub Word : ℕ → Type 0

@@ -13,12 +13,13 @@ use lib.Ieee.Bits.{ofBits-toBits, toBits-ofBits, toBits-lt}
 use borrow.Author.Tests.{eqb-true, leb-true, le-leb, not-false}
 use Rattle.laws.specs.Bytes.{number, bytes, zeros}
 use Rattle.laws.proofs.Tests.{tested, and-parts}
+use Rattle.laws.proofs.ByteLaws.{number-bytes}
 use Rattle.floats.specs.Floats.{floatOf, floatBytes}
 use Rattle.model_file.specs.Records.{wordBytes, wordsAt, nodeRecord, wordRecord, lastRecord, letterOf, letter, byte1, count, floatAt, capIn, coordsIn, wordsRight, recordOff}
 use Rattle.model_file.specs.Held.{All, Byte, Fits}
 use Rattle.model_file.specs.declared.Letter.{Letter}
 use Rattle.model_file.specs.declared.Letter.the-variants.{Node, Cell, More, Last, Other}
-use Rattle.model_file.proofs.Numbers.{number-bytes, bytes-number, number-lt, zeros-true, zeros-replicate, all-take, all-drop}
+use Rattle.model_file.proofs.Numbers.{bytes-number, number-lt, zeros-true, zeros-replicate, all-take, all-drop}
 use Rattle.model_file.proofs.Fields.{length-wordBytes, length-wordsAt, bytes-words}
 
 -- a value that is no NaN

@@ -3,23 +3,16 @@ use Prim.Native.Nat.{ℕ, zero, suc, _+_, _*_, _/_, _%_, _^_, _≤_, _<_}
 use mathlib.Core.Path.{_≡_, refl, sym, ap, ap₂, _∙_}
 use mathlib.Core.List.{List, [], _∷_, _++_}
 use mathlib.Core.Bool.{true, _&&_}
-use native.Mathlib.Nat.{div-lt-iff-lt-mul, pow-suc}
+use native.Mathlib.Nat.{pow-suc}
 use native.Mathlib.Omega.{arith}
 use native.Mathlib.Numerals.{add-one}
 use lib.ListN.{length, getD, take, drop, replicate}
 use lib.Seq.{slice, slice-cons, slice-empty}
-use lib.Dec.{eqb, lit<}
+use lib.Dec.{eqb}
 use borrow.Author.Tests.{eqb-true}
 use Rattle.laws.specs.Bytes.{number, bytes, zeros}
 use Rattle.laws.proofs.Tests.{and-parts}
 use Rattle.model_file.specs.Held.{All, Byte}
-
--- a number comes back out of its bytes
-pub number-bytes : (k n : ℕ) → n < 256 ^ k → number (bytes k n) ≡ n
-number-bytes zero n h = omega arith
-number-bytes (suc k) n h =
-    let d : n / 256 < 256 ^ k = div-lt-iff-lt-mul {k = 256} {x = n} {y = 256 ^ k} (lit< tt) .1 (rw pow-suc at h) in
-    ap (λ (m : ℕ). n % 256 + 256 * m) (number-bytes k (n / 256) d) ∙ omega arith
 
 -- bytes come back out of their number
 pub bytes-number : (l : List ℕ) → All Byte l → bytes (length l) (number l) ≡ l

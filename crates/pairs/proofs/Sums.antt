@@ -5,9 +5,7 @@ use mathlib.Core.List.{map}
 use native.Mathlib.Nat.{div-le-self, mul-le-mul-left, mul-le-mul-right}
 use native.Mathlib.Numerals.{add-one}
 use native.Mathlib.Omega.{arith}
-use Rattle.laws.specs.Lists.{upFrom}
-use Rattle.counting.specs.Counts.{sum}
-use Rattle.pairs.specs.Work.{pairsOf, triplesOf}
+use Rattle.laws.specs.Lists.{upFrom, sum, pairsOf, triplesOf}
 
 -- f's values from n on, below m
 abbrev pub left : (ℕ → ℕ) → ℕ → ℕ → ℕ

@@ -1,20 +1,12 @@
 -- Which way candidates are sought: the work of each.
-use Prim.Native.Nat.{ℕ, _-_, _*_, _/_, _≤_, _^_}
+use Prim.Native.Nat.{ℕ, _*_, _≤_, _^_}
 use mathlib.Core.Bool.{Bool}
 use mathlib.Core.List.{List, map}
 use lib.Dec.{leb}
 use lib.ListN.{length}
-use Rattle.laws.specs.Lists.{upFrom}
-use Rattle.counting.specs.Counts.{sum}
+use Rattle.laws.specs.Lists.{upFrom, sum, pairsOf, triplesOf}
 use Rattle.index.specs.declared.Places.{Places}
 use Rattle.index.specs.Faces.{nodesOf, facesWith}
-
--- pairs of n things, and triples
-abbrev pub pairsOf : ℕ → ℕ
-pairsOf n = n * (n - 1) / 2
-
-abbrev pub triplesOf : ℕ → ℕ
-triplesOf n = n * (n - 1) * (n - 2) / 6
 
 -- for each node, the pairs of faces that have it
 unfoldable pub nodeWork : Places → List ℕ → ℕ

@@ -2,10 +2,11 @@
 ghost use mathlib.Core.Path.{_≡_};
 ghost use Prim.Native.Nat.{_*_, _≤_, _^_};
 ghost use lib.ListN.{length};
+ghost use Rattle.laws.specs.Lists.{pairsOf, triplesOf};
 ghost use Rattle.index.specs.Faces.{input, Laid, Room, Indexed};
 ghost use Rattle.seek.specs.Candidates.{Ready, Sought};
 ghost use Rattle.pairs.specs.Tables.{withIndex, ReadyAll};
-ghost use Rattle.pairs.specs.Work.{pairsOf, triplesOf, nodeWork, tripleWork, byNodes, Few};
+ghost use Rattle.pairs.specs.Work.{nodeWork, tripleWork, byNodes, Few};
 
 // Pairs of n things.
 fn pairs_of(n: usize) -> usize

@@ -7,6 +7,7 @@ use native.Mathlib.Omega.{arith}
 use lib.ListN.{getD, take, drop, replicate}
 use lib.Seq.{drop-drop, getD-drop}
 use Rattle.laws.specs.Bytes.{number, bytes}
+use Rattle.laws.proofs.ByteLaws.{number-bytes}
 use Rattle.laws.proofs.Stores.{slice-region}
 use Rattle.geometry.specs.declared.Point.{Point}
 use Rattle.findings.specs.Records.{Fields, recordBytes}
@@ -21,10 +22,6 @@ one-of-four k h =
     let d : k / 256 / 256 % 256 ≡ 0 = omega arith in
     let e : k / 256 / 256 / 256 % 256 ≡ 0 = omega arith in
     λ i. a i ∷ b i ∷ d i ∷ e i ∷ []
-
--- a number below 2^32 is read from its four bytes
-four-back : (n : ℕ) → n < 4294967296 → number (bytes 4 n) ≡ n
-four-back n h = omega arith
 
 -- a word of what stands from a place on
 word-from : (s : List ℕ) (at k : ℕ) → word s (at + k) ≡ word (drop at s) k
@@ -41,7 +38,7 @@ fields-from s at =
 fields-front : (rest : List ℕ) (f : Fields) (p : Point) → Below 4294967296 f → fieldsIn (recordBytes f p ++ rest) 0 ≡ f
 unfolding fieldsIn recordBytes
 fields-front rest f p h =
-    λ i. record { kind = f .kind; first = four-back (f .first) (h .first) i; second = four-back (f .second) (h .second) i; a = four-back (f .a) (h .a) i; b = four-back (f .b) (h .b) i; count = four-back (f .count) (h .count) i }
+    λ i. record { kind = f .kind; first = number-bytes 4 (f .first) (h .first) i; second = number-bytes 4 (f .second) (h .second) i; a = number-bytes 4 (f .a) (h .a) i; b = number-bytes 4 (f .b) (h .b) i; count = number-bytes 4 (f .count) (h .count) i }
 
 -- the fields read where a record's bytes stand are those it was written from
 pub fields-back : (s rest : List ℕ) (at : ℕ) (f : Fields) (p : Point) → drop at s ≡ recordBytes f p ++ rest → Below 4294967296 f → fieldsIn s at ≡ f

@@ -10,7 +10,7 @@ use lib.ListN.{length}
 use lib.Seq.{sets, length-sets}
 use Rattle.laws.specs.Merging.{region}
 use Rattle.laws.specs.Lists.{elem, add}
-use Rattle.laws.proofs.Ascending.{Asc, elem-add, asc-add, head-in}
+use Rattle.laws.proofs.Ascending.{Asc, elem-add, asc-add, head-in, later-in}
 use Rattle.laws.proofs.Tests.{tested, or-cases, or-swap}
 use Rattle.laws.proofs.Stores.{region-same, sets-self, sets-over, length-region}
 use Rattle.index.specs.declared.Places.{Places}
@@ -56,15 +56,8 @@ asc-length : (l : List ℕ) (m n : ℕ) → Asc l → ((x : ℕ) → elem x l �
 asc-length [] m n a h = omega arith
 asc-length (x ∷ l) m n a h =
     let top = h x (head-in x l) in
-    let ih : length l ≤ n - suc x = asc-length l (suc x) n (a .1) (λ y e. (a .0 y e, h y (later y e) .1)) in
+    let ih : length l ≤ n - suc x = asc-length l (suc x) n (a .1) (λ y e. (a .0 y e, h y (later-in x l y e) .1)) in
     omega (arith, top .0, top .1)
-  where
-    later : (y : ℕ) → elem y l ≡ true → elem y (x ∷ l) ≡ true
-    later y e = go (eqb y x)
-      where
-        go : (b : Bool) → (b || elem y l) ≡ true
-        go true = refl
-        go false = e
 
 abbrev pub Faces : Places → List ℕ → Type 0
 Faces p xs = (x : ℕ) → elem x xs ≡ true → x < p .faces

@@ -6,13 +6,14 @@ use native.Mathlib.Numerals.{add-one}
 use native.Mathlib.Omega.{arith}
 use borrow.Author.Needs.{needs}
 use lib.ListN.{length}
+use Rattle.laws.specs.Lists.{pairsOf}
 use Rattle.counting.specs.Counts.{times, below}
 use Rattle.counting.proofs.CountLaws.{below-suc}
 use Rattle.index.specs.declared.Places.{Places}
 use Rattle.index.specs.Faces.{input, wordsOf, facesWith, Indexed}
 use Rattle.index.proofs.Built.{list-long}
 use Rattle.seek.proofs.Read.{below-words}
-use Rattle.pairs.specs.Work.{pairsOf, nodeWork, Few}
+use Rattle.pairs.specs.Work.{nodeWork, Few}
 use Rattle.pairs.proofs.Sums.{left, left-all, left-turn, left-end}
 use Rattle.pairs.proofs.node_work.Statement.{statement}
 use Rattle.pairs.proofs.node_work.Tie as tie

@@ -5,9 +5,10 @@ use mathlib.Core.Path.{_≡_, ap, _∙_}
 use native.Mathlib.Omega.{arith}
 use borrow.Author.Needs.{needs}
 use lib.ListN.{length}
+use Rattle.laws.specs.Lists.{triplesOf}
 use Rattle.index.specs.declared.Places.{Places}
 use Rattle.index.specs.Faces.{input, nodesOf}
-use Rattle.pairs.specs.Work.{triplesOf, tripleWork}
+use Rattle.pairs.specs.Work.{tripleWork}
 use Rattle.pairs.proofs.Sums.{left, left-all, left-turn, left-end}
 use Rattle.pairs.proofs.triple_work.Statement.{statement}
 use Rattle.pairs.proofs.triple_work.Tie as tie
