@@ -15,10 +15,11 @@ use Rattle.layout.specs.declared.Layout.{Layout}
 abbrev pub rowOf : (starts words : ℕ) → List ℕ → ℕ → List ℕ
 rowOf starts words t g = region (words + getD t (starts + g) 0) (getD t (starts + (g + 1)) 0 - getD t (starts + g) 0) t
 
--- where each of lists starts that stand one after the other from k on, and where the last ends
-abbrev pub startsOf : ℕ → List (List ℕ) → List ℕ
-startsOf k [] = k ∷ []
-startsOf k (r ∷ rs) = k ∷ startsOf (k + length r) rs
+module _ {A : Type 0} where
+  -- where each of lists starts that stand one after the other from k on, and where the last ends
+  abbrev pub startsOf : ℕ → List (List A) → List ℕ
+  startsOf k [] = k ∷ []
+  startsOf k (r ∷ rs) = k ∷ startsOf (k + length r) rs
 
 -- the ring of face g, and its key
 unfoldable pub ringRow : Layout → List ℕ → ℕ → List ℕ
@@ -49,6 +50,8 @@ pub record Ringed (l : Layout) (t : List ℕ) : Type 0 where
   pub rings-at : l .rings + l .total ≤ l .at .bows
   pub rows-at : l .rows + (l .at .faces + 1) ≤ l .at .bows
   pub firsts-at : l .firsts + (l .at .«cell_count» + 1) ≤ l .at .bows
+  pub row-zero : getD t (l .rows) 0 ≡ 0
+  pub row-last : getD t (l .rows + l .at .faces) 0 ≡ l .total
   pub rising : (g : ℕ) → g < l .at .faces → getD t (l .rows + g) 0 ≤ getD t (l .rows + (g + 1)) 0
   pub within : (g : ℕ) → g ≤ l .at .faces → getD t (l .rows + g) 0 ≤ l .total
   pub short : (g : ℕ) → g < l .at .faces → length (ringRow l t g) ≤ 64
