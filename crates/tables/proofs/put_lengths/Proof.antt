@@ -1,3 +1,11 @@
+use borrow.Author.Needs.{needs}
+use Prim.Native.Nat.{_-_}
+use lib.ListN.{length}
+use Rattle.faces.proofs.Walking.{next-end}
+use Rattle.mesh.proofs.CellTallies.{left}
+use Rattle.mesh.specs.Model.{cellsFrom}
+use Rattle.tables.proofs.Passing.{lengthsOf, Passing, passing-start, lengths-asks, lengths-next, lengths-end}
+use native.Mathlib.Omega.{arith}
 use Rattle.tables.proofs.put_lengths.Statement.{statement}
 use Rattle.tables.proofs.put_lengths.Tie as tie
 use Rattle.tables.proofs.put_lengths.Reads as reads
@@ -6,70 +14,90 @@ use Rattle.mesh.proofs.wide.Reads as wide-reads
 use Rattle.tables.proofs.cell_lengths.Reads as cell-lengths-reads
 
 abbrev Inv-loop : tie.InvT-loop
-Inv-loop kinds ends words work₀ at k₀ from₀ i₀ work k from i = ?
+Inv-loop kinds ends words work₀ at k₀ from₀ i₀ work k from i = Passing kinds ends words work₀ at (lengthsOf (cellsFrom 0 kinds ends words)) work k (lengthsOf (left kinds ends words from i)) from i
 
 abbrev μ-loop : tie.MeasureT-loop
-μ-loop kinds ends words work₀ at k₀ from₀ i₀ work k from i = ?
+μ-loop kinds ends words work₀ at k₀ from₀ i₀ work k from i = length kinds - i
 
--- src/lib.rt:81:5
 loop-holds : tie.Need-loop-holds Inv-loop μ-loop
-loop-holds c = ?
+loop-holds c =
+    let s = c .before .before .before .before in
+    let a = s .args in
+    passing-start (a .kinds .now) (a .ends .now) (a .words .now) (a .work .now) (a .at) (lengthsOf (cellsFrom 0 (a .kinds .now) (a .ends .now) (a .words .now))) (s .pre .0)
 
--- src/lib.rt:82:28
 mul-wide : tie.Need-mul-wide Inv-loop μ-loop
-mul-wide c = ?
+mul-wide c = search needs
 
--- src/lib.rt:82:28
 shared-slice-read-wide : tie.Need-shared-slice-read-wide Inv-loop μ-loop
-shared-slice-read-wide c = ?
+shared-slice-read-wide c = search needs
 
--- src/lib.rt:82:13
 wide-requires : tie.Need-wide-requires Inv-loop μ-loop
-wide-requires c κs = ?
+wide-requires c κs = search needs
 
--- src/lib.rt:83:26
 shared-slice-read-cell-lengths : tie.Need-shared-slice-read-cell-lengths Inv-loop μ-loop
-shared-slice-read-cell-lengths c = ?
+shared-slice-read-cell-lengths c = search needs
 
--- src/lib.rt:83:36
 mul-cell-lengths : tie.Need-mul-cell-lengths Inv-loop μ-loop
-mul-cell-lengths c = ?
+mul-cell-lengths c =
+    let s = c .before .before .before .before .before .before .before .before .before in
+    let a = s .args in
+    let l = c .before .before .before .before .loop in
+    let q = next-end (a .kinds .now) (a .ends .now) (a .words .now) (l .from) (l .i) (l .inv .walked) (s .pre .0) (c .before .before .before .loop-test .taken) _ (c .before .wide .ensures .0) in
+    omega (arith, q .0, q .1)
 
--- src/lib.rt:83:36
 sub-cell-lengths : tie.Need-sub-cell-lengths Inv-loop μ-loop
-sub-cell-lengths c = ?
+sub-cell-lengths c =
+    let s = c .before .before .before .before .before .before .before .before .before in
+    let a = s .args in
+    let l = c .before .before .before .before .loop in
+    let q = next-end (a .kinds .now) (a .ends .now) (a .words .now) (l .from) (l .i) (l .inv .walked) (s .pre .0) (c .before .before .before .loop-test .taken) _ (c .before .wide .ensures .0) in
+    omega (arith, q .0, q .1)
 
--- src/lib.rt:83:36
 part-cell-lengths-start : tie.Need-part-cell-lengths-start Inv-loop μ-loop
-part-cell-lengths-start c = ?
+part-cell-lengths-start c =
+    let s = c .before .before .before .before .before .before .before .before .before in
+    let a = s .args in
+    let l = c .before .before .before .before .loop in
+    let q = next-end (a .kinds .now) (a .ends .now) (a .words .now) (l .from) (l .i) (l .inv .walked) (s .pre .0) (c .before .before .before .loop-test .taken) _ (c .before .wide .ensures .0) in
+    omega (arith, q .0, q .1)
 
--- src/lib.rt:83:36
 part-cell-lengths-end : tie.Need-part-cell-lengths-end Inv-loop μ-loop
-part-cell-lengths-end c = ?
+part-cell-lengths-end c =
+    let s = c .before .before .before .before .before .before .before .before .before in
+    let a = s .args in
+    let l = c .before .before .before .before .loop in
+    let q = next-end (a .kinds .now) (a .ends .now) (a .words .now) (l .from) (l .i) (l .inv .walked) (s .pre .0) (c .before .before .before .loop-test .taken) _ (c .before .wide .ensures .0) in
+    omega (arith, q .0, q .1)
 
--- src/lib.rt:83:9
 cell-lengths-requires : tie.Need-cell-lengths-requires Inv-loop μ-loop
-cell-lengths-requires c κs = ?
+cell-lengths-requires c κs =
+    let s = c .before .before .before .before .before .before .before .before .before .before .before in
+    let a = s .args in
+    let l = c .before .before .before .before .before .before .loop in
+    lengths-asks (a .kinds .now) (a .ends .now) (a .words .now) (a .work .now) (a .at) (l .work) (l .k) (l .from) (l .i) (l .inv) (s .pre .0) (c .before .before .before .before .before .loop-test .taken) _ (c .before .before .before .wide .ensures .0) (s .pre .1)
 
--- src/lib.rt:85:9
 add-i : tie.Need-add-i Inv-loop μ-loop
-add-i c = ?
+add-i c = search needs
 
--- src/lib.rt:81:5
 loop-less : tie.Need-loop-less Inv-loop μ-loop
-loop-less c = ?
+loop-less c = search needs
 
--- src/lib.rt:81:5
 loop-again : tie.Need-loop-again Inv-loop μ-loop
-loop-again c = ?
+loop-again c =
+    let s = c .before .before .before .before .before .before .before .before .before .before .before .before .before .before in
+    let a = s .args in
+    let l = c .before .before .before .before .before .before .before .before .before .loop in
+    lengths-next (a .kinds .now) (a .ends .now) (a .words .now) (a .work .now) (a .at) (l .work) (l .k) (l .from) (l .i) (l .inv) (s .pre .0) (c .before .before .before .before .before .before .before .before .loop-test .taken) _ (c .before .before .before .before .before .before .wide .ensures .0) _ _ (c .before .before .cell-lengths .ensures)
 
--- src/lib.rt:74:1
 same-length : tie.Need-same-length Inv-loop μ-loop
-same-length c = ?
+same-length c = c .before .loop .inv .noting .same
 
--- src/lib.rt:74:1
 returns : tie.Need-returns Inv-loop μ-loop
-returns c = ?
+returns c =
+    let s = c .before .before .before .before .before .before in
+    let a = s .args in
+    let l = c .before .loop in
+    lengths-end (a .kinds .now) (a .ends .now) (a .words .now) (a .work .now) (a .at) (l .work) (l .k) (l .from) (l .i) (l .inv) (s .pre .0) (omega arith)
 
 pub put-lengths-spec : {M : Type 1} → statement M
 put-lengths-spec =
