@@ -1,11 +1,11 @@
 -- A pass over the cells of an accepted model that writes one list right behind the other.
-use Prim.Native.Nat.{ℕ, suc, _+_, _-_, _*_, _≤_, _<_}
+use Prim.Native.Nat.{ℕ, suc, _+_, _≤_, _<_}
 use mathlib.Core.Path.{_≡_, refl, sym, ap, _∙_, subst}
 use mathlib.Core.List.{List, [], _∷_, _++_, map, map-append}
 use native.Mathlib.Numerals.{add-one}
 use native.Mathlib.Omega.{arith}
 use lib.ListN.{length, getD, set, replicate, length-append, length-map, length-replicate}
-use lib.Seq.{sets, length-sets}
+use lib.Seq.{sets}
 use Rattle.laws.specs.Lists.{each}
 use Rattle.mesh.specs.Model.{Raw, cellsFrom}
 use Rattle.mesh.specs.Rings.{ringsOf}
@@ -55,8 +55,7 @@ module _ (kinds ends words work₀ : List ℕ) (at : ℕ) (work : List ℕ) (k f
     -- what the next cell asks
     pub lengths-asks : at + length (ringsIn kinds ends words) ≤ length work₀ → WellCell cell × (length (cell .words) < 4294967296) × (k + length (ringsOf cell) ≤ length work)
     lengths-asks h =
-        let later = lengthsOf (left kinds ends words e (i + 1)) in
-        (
+        let later = lengthsOf (left kinds ends words e (i + 1)) in (
           next-well kinds ends words from i (p .walked) sound more e is,
           next-asks kinds ends words from i (p .walked) sound more e is .0,
           omega (
@@ -108,8 +107,7 @@ module _ (kinds ends words work₀ : List ℕ) (at : ℕ) (work : List ℕ) (k f
     -- what the next cell asks
     pub owners-asks : at + length (ringsIn kinds ends words) ≤ length work₀ → WellCell owner × (length (owner .words) < 4294967296) × (k + length (ringsOf owner) ≤ length work)
     owners-asks h =
-        let later = ownersFrom (i + 1) (left kinds ends words e (i + 1)) in
-        (
+        let later = ownersFrom (i + 1) (left kinds ends words e (i + 1)) in (
           next-well kinds ends words from i (p .walked) sound more e is,
           next-asks kinds ends words from i (p .walked) sound more e is .0,
           omega (

@@ -52,20 +52,19 @@ module _ (kinds ends words w₀ w₁ : List ℕ) (at end : ℕ) (sound : Sound k
 
   -- what summing them up asks
   pub rows-ask : (0 < at + 1) × (at + 1 + (end - (at + 1)) ≤ length w₁) × (getD w₁ (at + 1 - 1) 0 + sum (region (at + 1) (end - (at + 1)) w₁) < 2 ^ 32)
-  rows-ask =
-      (
-        omega arith,
-        omega (arith, size, many, ap length (noted .put), length-sets (set w₀ at 0) (at + 1) ls, length-set w₀ at 0),
-        omega (
-          arith,
-          zero-before,
-          ap sum lengths-there,
-          lengths-sum (ringsIn kinds ends words),
-          cells-small 0 kinds ends words (sound .well),
-          sound .few,
-          sound .small,
-        ),
-      )
+  rows-ask = (
+    omega arith,
+    omega (arith, size, many, ap length (noted .put), length-sets (set w₀ at 0) (at + 1) ls, length-set w₀ at 0),
+    omega (
+      arith,
+      zero-before,
+      ap sum lengths-there,
+      lengths-sum (ringsIn kinds ends words),
+      cells-small 0 kinds ends words (sound .well),
+      sound .few,
+      sound .small,
+    ),
+  )
 
   -- summed up they are the starts
   pub rows-put : (w₂ : List ℕ) → w₂ ≡ sets w₁ (at + 1) (sums (getD w₁ (at + 1 - 1) 0) (region (at + 1) (end - (at + 1)) w₁)) → w₂ ≡ sets w₀ at (startsOf 0 (ringsIn kinds ends words))

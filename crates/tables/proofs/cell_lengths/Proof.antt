@@ -5,7 +5,6 @@ use lib.ListN.{length}
 use Rattle.faces.proofs.Noting.{noted-as}
 use Rattle.mesh.proofs.Cells.{the-fourth}
 use Rattle.mesh.proofs.ByKind.{tet-is, hex-is, wedge-is, phed-is}
-use native.Mathlib.Omega.{arith}
 use borrow.Author.Needs.{needs}
 use Rattle.tables.proofs.cell_lengths.Statement.{statement}
 use Rattle.tables.proofs.cell_lengths.Tie as tie

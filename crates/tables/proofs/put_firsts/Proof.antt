@@ -1,6 +1,6 @@
 use borrow.Author.Needs.{needs}
-use Prim.Native.Nat.{_+_, _-_, _<_}
-use mathlib.Core.Path.{_≡_, ap, _∙_}
+use Prim.Native.Nat.{_+_, _-_, _≤_}
+use mathlib.Core.Path.{ap, _∙_}
 use lib.ListN.{length, set, length-set}
 use Rattle.faces.proofs.Walking.{next-end}
 use Rattle.tables.proofs.Passing.{Firsts, firsts-start, firsts-fit, firsts-asks, firsts-next, firsts-end}
@@ -37,37 +37,24 @@ wide-requires c κs = search needs
 shared-slice-read-put-first : tie.Need-shared-slice-read-put-first Inv-loop μ-loop
 shared-slice-read-put-first c = search needs
 
-mul-put-first : tie.Need-mul-put-first Inv-loop μ-loop
-mul-put-first c =
+ordered : (c : tie.After-shared-slice-known5 Inv-loop μ-loop) → (c .before .before .before .before .loop .from ≤ c .before .wide .result) × (c .before .wide .result ≤ length (c .before .before .before .before .before .before .before .before .before .args .words .now))
+ordered c =
     let s = c .before .before .before .before .before .before .before .before .before in
     let a = s .args in
     let l = c .before .before .before .before .loop in
-    let q = next-end (a .kinds .now) (a .ends .now) (a .words .now) (l .from) (l .i) (l .inv .walked) (s .pre .0) (c .before .before .before .loop-test .taken) _ (c .before .wide .ensures .0) in
-    omega (arith, q .0, q .1)
+    next-end (a .kinds .now) (a .ends .now) (a .words .now) (l .from) (l .i) (l .inv .walked) (s .pre .0) (c .before .before .before .loop-test .taken) _ (c .before .wide .ensures .0)
+
+mul-put-first : tie.Need-mul-put-first Inv-loop μ-loop
+mul-put-first c = omega (arith, ordered c .0, ordered c .1)
 
 sub-put-first : tie.Need-sub-put-first Inv-loop μ-loop
-sub-put-first c =
-    let s = c .before .before .before .before .before .before .before .before .before in
-    let a = s .args in
-    let l = c .before .before .before .before .loop in
-    let q = next-end (a .kinds .now) (a .ends .now) (a .words .now) (l .from) (l .i) (l .inv .walked) (s .pre .0) (c .before .before .before .loop-test .taken) _ (c .before .wide .ensures .0) in
-    omega (arith, q .0, q .1)
+sub-put-first c = omega (arith, ordered c .0, ordered c .1)
 
 part-put-first-start : tie.Need-part-put-first-start Inv-loop μ-loop
-part-put-first-start c =
-    let s = c .before .before .before .before .before .before .before .before .before in
-    let a = s .args in
-    let l = c .before .before .before .before .loop in
-    let q = next-end (a .kinds .now) (a .ends .now) (a .words .now) (l .from) (l .i) (l .inv .walked) (s .pre .0) (c .before .before .before .loop-test .taken) _ (c .before .wide .ensures .0) in
-    omega (arith, q .0, q .1)
+part-put-first-start c = omega (arith, ordered c .0, ordered c .1)
 
 part-put-first-end : tie.Need-part-put-first-end Inv-loop μ-loop
-part-put-first-end c =
-    let s = c .before .before .before .before .before .before .before .before .before in
-    let a = s .args in
-    let l = c .before .before .before .before .loop in
-    let q = next-end (a .kinds .now) (a .ends .now) (a .words .now) (l .from) (l .i) (l .inv .walked) (s .pre .0) (c .before .before .before .loop-test .taken) _ (c .before .wide .ensures .0) in
-    omega (arith, q .0, q .1)
+part-put-first-end c = omega (arith, ordered c .0, ordered c .1)
 
 add-put-first : tie.Need-add-put-first Inv-loop μ-loop
 add-put-first c = search needs

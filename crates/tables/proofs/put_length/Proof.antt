@@ -1,5 +1,4 @@
 use lib.ListN.{set}
-use Prim.Native.Nat.{ℕ}
 use mathlib.Core.Path.{refl, ap}
 use borrow.Author.Tests.{lt-leb, le-leb}
 use native.Mathlib.Omega.{arith}

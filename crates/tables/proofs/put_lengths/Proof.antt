@@ -1,5 +1,5 @@
 use borrow.Author.Needs.{needs}
-use Prim.Native.Nat.{_-_}
+use Prim.Native.Nat.{_-_, _≤_}
 use lib.ListN.{length}
 use Rattle.faces.proofs.Walking.{next-end}
 use Rattle.mesh.proofs.CellTallies.{left}
@@ -37,37 +37,24 @@ wide-requires c κs = search needs
 shared-slice-read-cell-lengths : tie.Need-shared-slice-read-cell-lengths Inv-loop μ-loop
 shared-slice-read-cell-lengths c = search needs
 
-mul-cell-lengths : tie.Need-mul-cell-lengths Inv-loop μ-loop
-mul-cell-lengths c =
+ordered : (c : tie.After-shared-slice-known5 Inv-loop μ-loop) → (c .before .before .before .before .loop .from ≤ c .before .wide .result) × (c .before .wide .result ≤ length (c .before .before .before .before .before .before .before .before .before .args .words .now))
+ordered c =
     let s = c .before .before .before .before .before .before .before .before .before in
     let a = s .args in
     let l = c .before .before .before .before .loop in
-    let q = next-end (a .kinds .now) (a .ends .now) (a .words .now) (l .from) (l .i) (l .inv .walked) (s .pre .0) (c .before .before .before .loop-test .taken) _ (c .before .wide .ensures .0) in
-    omega (arith, q .0, q .1)
+    next-end (a .kinds .now) (a .ends .now) (a .words .now) (l .from) (l .i) (l .inv .walked) (s .pre .0) (c .before .before .before .loop-test .taken) _ (c .before .wide .ensures .0)
+
+mul-cell-lengths : tie.Need-mul-cell-lengths Inv-loop μ-loop
+mul-cell-lengths c = omega (arith, ordered c .0, ordered c .1)
 
 sub-cell-lengths : tie.Need-sub-cell-lengths Inv-loop μ-loop
-sub-cell-lengths c =
-    let s = c .before .before .before .before .before .before .before .before .before in
-    let a = s .args in
-    let l = c .before .before .before .before .loop in
-    let q = next-end (a .kinds .now) (a .ends .now) (a .words .now) (l .from) (l .i) (l .inv .walked) (s .pre .0) (c .before .before .before .loop-test .taken) _ (c .before .wide .ensures .0) in
-    omega (arith, q .0, q .1)
+sub-cell-lengths c = omega (arith, ordered c .0, ordered c .1)
 
 part-cell-lengths-start : tie.Need-part-cell-lengths-start Inv-loop μ-loop
-part-cell-lengths-start c =
-    let s = c .before .before .before .before .before .before .before .before .before in
-    let a = s .args in
-    let l = c .before .before .before .before .loop in
-    let q = next-end (a .kinds .now) (a .ends .now) (a .words .now) (l .from) (l .i) (l .inv .walked) (s .pre .0) (c .before .before .before .loop-test .taken) _ (c .before .wide .ensures .0) in
-    omega (arith, q .0, q .1)
+part-cell-lengths-start c = omega (arith, ordered c .0, ordered c .1)
 
 part-cell-lengths-end : tie.Need-part-cell-lengths-end Inv-loop μ-loop
-part-cell-lengths-end c =
-    let s = c .before .before .before .before .before .before .before .before .before in
-    let a = s .args in
-    let l = c .before .before .before .before .loop in
-    let q = next-end (a .kinds .now) (a .ends .now) (a .words .now) (l .from) (l .i) (l .inv .walked) (s .pre .0) (c .before .before .before .loop-test .taken) _ (c .before .wide .ensures .0) in
-    omega (arith, q .0, q .1)
+part-cell-lengths-end c = omega (arith, ordered c .0, ordered c .1)
 
 cell-lengths-requires : tie.Need-cell-lengths-requires Inv-loop μ-loop
 cell-lengths-requires c κs =

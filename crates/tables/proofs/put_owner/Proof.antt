@@ -2,9 +2,9 @@ use Rattle.mesh.specs.Steps.{cellWith}
 use Rattle.mesh.specs.Rings.{ringsOf}
 use lib.Seq.{sets}
 use lib.ListN.{replicate, length, length-replicate}
-use Prim.Native.Nat.{ℕ, _+_}
+use Prim.Native.Nat.{ℕ}
 use native.Mathlib.Omega.{arith}
-use mathlib.Core.Path.{ap, _∙_, sym}
+use mathlib.Core.Path.{ap, _∙_}
 use borrow.Author.Needs.{needs}
 use Rattle.tables.proofs.put_owner.Statement.{statement}
 use Rattle.tables.proofs.put_owner.Tie as tie

@@ -1,11 +1,8 @@
 use borrow.Author.Needs.{needs}
-use Prim.Native.Nat.{ℕ, _+_, _-_, _<_}
-use mathlib.Core.Path.{_≡_, ap, _∙_}
-use lib.ListN.{length, replicate}
+use Prim.Native.Nat.{_-_, _≤_}
+use lib.ListN.{length}
 use Rattle.faces.proofs.Walking.{next-end}
 use Rattle.mesh.proofs.CellTallies.{left}
-use Rattle.faces.specs.Holding.{Noted}
-use Rattle.mesh.specs.Rings.{ringsOf}
 use Rattle.mesh.specs.Model.{cellsFrom}
 use Rattle.tables.specs.Owners.{ownersFrom}
 use Rattle.tables.proofs.Passing.{Passing, passing-start, owners-asks, owners-next, owners-end}
@@ -42,37 +39,24 @@ wide-requires c κs = search needs
 shared-slice-read-put-owner : tie.Need-shared-slice-read-put-owner Inv-loop μ-loop
 shared-slice-read-put-owner c = search needs
 
-mul-put-owner : tie.Need-mul-put-owner Inv-loop μ-loop
-mul-put-owner c =
+ordered : (c : tie.After-shared-slice-known5 Inv-loop μ-loop) → (c .before .before .before .before .loop .from ≤ c .before .wide .result) × (c .before .wide .result ≤ length (c .before .before .before .before .before .before .before .before .before .args .words .now))
+ordered c =
     let s = c .before .before .before .before .before .before .before .before .before in
     let a = s .args in
     let l = c .before .before .before .before .loop in
-    let q = next-end (a .kinds .now) (a .ends .now) (a .words .now) (l .from) (l .i) (l .inv .walked) (s .pre .0) (c .before .before .before .loop-test .taken) _ (c .before .wide .ensures .0) in
-    omega (arith, q .0, q .1)
+    next-end (a .kinds .now) (a .ends .now) (a .words .now) (l .from) (l .i) (l .inv .walked) (s .pre .0) (c .before .before .before .loop-test .taken) _ (c .before .wide .ensures .0)
+
+mul-put-owner : tie.Need-mul-put-owner Inv-loop μ-loop
+mul-put-owner c = omega (arith, ordered c .0, ordered c .1)
 
 sub-put-owner : tie.Need-sub-put-owner Inv-loop μ-loop
-sub-put-owner c =
-    let s = c .before .before .before .before .before .before .before .before .before in
-    let a = s .args in
-    let l = c .before .before .before .before .loop in
-    let q = next-end (a .kinds .now) (a .ends .now) (a .words .now) (l .from) (l .i) (l .inv .walked) (s .pre .0) (c .before .before .before .loop-test .taken) _ (c .before .wide .ensures .0) in
-    omega (arith, q .0, q .1)
+sub-put-owner c = omega (arith, ordered c .0, ordered c .1)
 
 part-put-owner-start : tie.Need-part-put-owner-start Inv-loop μ-loop
-part-put-owner-start c =
-    let s = c .before .before .before .before .before .before .before .before .before in
-    let a = s .args in
-    let l = c .before .before .before .before .loop in
-    let q = next-end (a .kinds .now) (a .ends .now) (a .words .now) (l .from) (l .i) (l .inv .walked) (s .pre .0) (c .before .before .before .loop-test .taken) _ (c .before .wide .ensures .0) in
-    omega (arith, q .0, q .1)
+part-put-owner-start c = omega (arith, ordered c .0, ordered c .1)
 
 part-put-owner-end : tie.Need-part-put-owner-end Inv-loop μ-loop
-part-put-owner-end c =
-    let s = c .before .before .before .before .before .before .before .before .before in
-    let a = s .args in
-    let l = c .before .before .before .before .loop in
-    let q = next-end (a .kinds .now) (a .ends .now) (a .words .now) (l .from) (l .i) (l .inv .walked) (s .pre .0) (c .before .before .before .loop-test .taken) _ (c .before .wide .ensures .0) in
-    omega (arith, q .0, q .1)
+part-put-owner-end c = omega (arith, ordered c .0, ordered c .1)
 
 narrow-requires : tie.Need-narrow-requires Inv-loop μ-loop
 narrow-requires c κs =
