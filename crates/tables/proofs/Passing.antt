@@ -45,6 +45,7 @@ module _ (kinds ends words work₀ : List ℕ) (at : ℕ) (all work : List ℕ) 
 
 module _ (kinds ends words work₀ : List ℕ) (at : ℕ) (work : List ℕ) (k from i : ℕ) (p : Passing kinds ends words work₀ at (lengthsOf (cellsFrom 0 kinds ends words)) work k (lengthsOf (left kinds ends words from i)) from i) (sound : Sound kinds ends words) where
   module _ (more : i < length kinds) (e : ℕ) (is : e ≡ getD ends i 0) where
+    -- the next cell
     abbrev cell : Raw
     cell = next-cell kinds ends words from i (p .walked) sound more e is
 
@@ -95,6 +96,7 @@ owners-length i (c ∷ cs) =
 
 module _ (kinds ends words work₀ : List ℕ) (at : ℕ) (work : List ℕ) (k from i : ℕ) (p : Passing kinds ends words work₀ at (ownersFrom 0 (cellsFrom 0 kinds ends words)) work k (ownersFrom i (left kinds ends words from i)) from i) (sound : Sound kinds ends words) where
   module _ (more : i < length kinds) (e : ℕ) (is : e ≡ getD ends i 0) where
+    -- the next cell
     abbrev owner : Raw
     owner = next-cell kinds ends words from i (p .walked) sound more e is
 
@@ -157,6 +159,7 @@ module _ (kinds ends words work₀ : List ℕ) (at : ℕ) (work : List ℕ) (n f
   firsts-fit = omega (arith, p .count, cells-few 0 kinds ends words (sound .well), sound .few, sound .small)
 
   module _ (more : i < length kinds) (e : ℕ) (is : e ≡ getD ends i 0) where
+    -- the next cell
     abbrev first : Raw
     first = next-cell kinds ends words from i (p .walked) sound more e is
 

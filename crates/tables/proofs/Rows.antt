@@ -27,6 +27,7 @@ lengths-sum [] = refl
 lengths-sum (r ∷ rs) = omega (arith, lengths-sum rs, length-append r (each (λ (l : List ℕ). l) rs))
 
 module _ (kinds ends words w₀ w₁ : List ℕ) (at end : ℕ) (sound : Sound kinds ends words) (room : at + (length (ringsIn kinds ends words) + 1) ≤ length w₀) (noted : Noted (set w₀ at 0) w₁ (at + 1) end (map length (ringsIn kinds ends words))) where
+  -- the lengths of all rings
   abbrev ls : List ℕ
   ls = map length (ringsIn kinds ends words)
 

@@ -1,4 +1,4 @@
--- The tables read back.
+-- The tables read back: lists by their starts, faces by rings, rows and owners, and the first face of each cell.
 use Prim.Native.Nat.{ℕ, zero, suc, _+_, _-_, _≤_, _<_}
 use mathlib.Core.Path.{_≡_, refl, sym, ap, ap₂, _∙_, subst}
 use mathlib.Core.List.{List, [], _∷_, _++_, map}
@@ -31,6 +31,7 @@ module _ {A : Type 0} where
   starts-length k [] = refl
   starts-length k (r ∷ rs) = omega (arith, starts-length (k + length r) rs)
 
+  -- the same of lists from k on
   starts-from : (k : ℕ) (rs : List (List A)) (g : ℕ) → g ≤ length rs → getD (startsOf k rs) g 0 ≡ k + length (joined (take g rs))
   starts-from k [] zero h = omega arith
   starts-from k [] (suc g) h = absurd (omega arith)
@@ -51,7 +52,7 @@ module _ {A : Type 0} where
       go (r ∷ rs) (suc g) h = omega (arith, go rs g (omega arith), length-append r (joined (take (suc g) rs)), length-append r (joined (take g rs)))
 
   -- list g stands there among all
-  pub joined-part : (rs : List (List A)) (g : ℕ) → g < length rs → region (length (joined (take g rs))) (length (getD rs g [])) (joined rs) ≡ getD rs g []
+  joined-part : (rs : List (List A)) (g : ℕ) → g < length rs → region (length (joined (take g rs))) (length (getD rs g [])) (joined rs) ≡ getD rs g []
   joined-part [] g h = absurd (omega arith)
   joined-part (r ∷ rs) zero h = take-append-seam r (joined rs)
   joined-part (r ∷ rs) (suc g) h =
@@ -63,7 +64,7 @@ module _ {A : Type 0} where
 
 module _ (rs : List (List ℕ)) (starts words : ℕ) (t : List ℕ) (flat : region words (length (joined rs)) t ≡ joined rs) (begun : region starts (length rs + 1) t ≡ startsOf 0 rs) where
   -- where a row starts
-  start-read : (g : ℕ) → g ≤ length rs → getD t (starts + g) 0 ≡ length (joined (take g rs))
+  pub start-read : (g : ℕ) → g ≤ length rs → getD t (starts + g) 0 ≡ length (joined (take g rs))
   start-read g h = sym (getD-region starts (length rs + 1) t g 0 (omega arith)) ∙ ap (λ (s : List ℕ). getD s g 0) begun ∙ starts-at rs g h
 
   -- a row is its list

@@ -39,6 +39,7 @@ wide-requires c κs = search needs
 shared-slice-read-put-owner : tie.Need-shared-slice-read-put-owner Inv-loop μ-loop
 shared-slice-read-put-owner c = search needs
 
+-- the next cell's words lie in order and within all words
 ordered : (c : tie.After-shared-slice-known5 Inv-loop μ-loop) → (c .before .before .before .before .loop .from ≤ c .before .wide .result) × (c .before .wide .result ≤ length (c .before .before .before .before .before .before .before .before .before .args .words .now))
 ordered c =
     let s = c .before .before .before .before .before .before .before .before .before in
