@@ -1,0 +1,3 @@
+-- Laws of the search for a cell's partly shared pairs.
+pub mod Marking
+pub mod Searched
