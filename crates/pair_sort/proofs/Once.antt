@@ -1,12 +1,28 @@
 -- Equal neighbours dropped from a sorted list leave each element once.
+use Prim.Native.Nat.{suc, _≤_}
 use mathlib.Core.Path.{_≡_, refl, ap, _∙_}
 use mathlib.Core.Logic.{_⊎_, inl, inr}
 use mathlib.Core.Bool.{Bool, true, false}
 use mathlib.Core.List.{List, [], _∷_}
+use native.Mathlib.Omega.{arith}
+use lib.ListN.{length}
 use Rattle.laws.specs.Lists.{insert, sort, add, distinct}
 use Rattle.laws.proofs.Tests.{tested, clash}
 use Rattle.laws.proofs.Sorting.{Total}
 use Rattle.pair_sort.specs.Pairs.{equal, unlike, unrepeated}
+
+module _ {ℓ} {A : Type ℓ} (le : A → A → Bool) where
+  unlike-length : (x : A) (l : List A) → length (unlike le x l) ≤ length l
+  unlike-length x [] = omega arith
+  unlike-length x (y ∷ l) = go (tested (equal le x y)) (unlike-length x l) (unlike-length y l)
+    where
+      go : (equal le x y ≡ true) ⊎ (equal le x y ≡ false) → length (unlike le x l) ≤ length l → length (unlike le y l) ≤ length l → length (unlike le x (y ∷ l)) ≤ suc (length l)
+      go (inl e) i j = rw e (omega arith)
+      go (inr e) i j = rw e (omega arith)
+
+  pub unrepeated-length : (l : List A) → length (unrepeated le l) ≤ length l
+  unrepeated-length [] = omega arith
+  unrepeated-length (x ∷ l) = omega (arith, unlike-length x l)
 
 module _ {ℓ} {A : Type ℓ} (le : A → A → Bool) (T : Total le) where
   -- x in front of z, no later than it

@@ -1,3 +1,7 @@
+-- Both words are widened unchanged.
+use Prim.Native.Nat.{ℕ, _+_}
+use mathlib.Core.Path.{ap, _∙_}
+use lib.ListN.{getD}
 use borrow.Author.Needs.{needs}
 use Rattle.repeats.proofs.place.Statement.{statement}
 use Rattle.repeats.proofs.place.Tie as tie
@@ -5,33 +9,28 @@ use Rattle.repeats.proofs.place.Reads as reads
 use Rattle.repeats.proofs.place.Lts as lts
 use Rattle.mesh.proofs.wide.Reads as wide-reads
 
--- src/lib.rt:55:23
 wide-requires : tie.Need-wide-requires
 wide-requires c κs = search needs
 
--- src/lib.rt:55:13
 add-i : tie.Need-add-i
 add-i c = search needs
 
--- src/lib.rt:56:26
 mul-wide : tie.Need-mul-wide
 mul-wide c = search needs
 
--- src/lib.rt:56:26
 shared-slice-read-wide : tie.Need-shared-slice-read-wide
 shared-slice-read-wide c = search needs
 
--- src/lib.rt:56:15
 wide-requires-2 : tie.Need-wide-requires-2
 wide-requires-2 c κs = search needs
 
--- src/lib.rt:56:5
 add-result : tie.Need-add-result
 add-result c = search needs
 
--- src/lib.rt:51:1
 returns : tie.Need-returns
-returns c = ?
+returns c =
+    let a = c .before .before .before .before .before .before .args in
+    ap (λ (x : ℕ). a .at .last + x) (c .before .wide2 .ensures .0 ∙ ap (λ (x : ℕ). getD (a .work .now) (a .at .weld + x) 0) (c .before .before .before .before .wide .ensures .0))
 
 pub place-spec : {M : Type 1} → statement M
 place-spec =

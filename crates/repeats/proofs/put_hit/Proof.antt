@@ -1,3 +1,7 @@
+-- Each return has the tests that led there.
+use Prim.Native.Nat.{_+_}
+use mathlib.Core.Path.{refl}
+use borrow.Author.Tests.{eq-eqb, ne-eqb}
 use borrow.Author.Needs.{needs}
 use Rattle.repeats.proofs.put_hit.Statement.{statement}
 use Rattle.repeats.proofs.put_hit.Tie as tie
@@ -5,33 +9,30 @@ use Rattle.repeats.proofs.put_hit.Reads as reads
 use Rattle.repeats.proofs.put_hit.Lts as lts
 use Rattle.repeats.proofs.put_pair.Reads as put-pair-reads
 
--- src/lib.rt:41:9
 returns : tie.Need-returns
-returns c = ?
+returns c = rw (eq-eqb (c .before .before .args .p) 0 (c .if1 .taken)) (refl, refl)
 
--- src/lib.rt:43:13
 add-if2 : tie.Need-add-if2
 add-if2 c = search needs
 
--- src/lib.rt:44:9
 returns-2 : tie.Need-returns-2
-returns-2 c = ?
+returns-2 c =
+    let a = c .before .before .before .args in
+    rw (ne-eqb (a .p) 0 (c .before .if1 .left), eq-eqb (a .p) (a .n + 1) (c .if2 .taken)) (refl, refl)
 
--- src/lib.rt:46:26
 sub-put-pair : tie.Need-sub-put-pair
 sub-put-pair c = search needs
 
--- src/lib.rt:46:5
 put-pair-requires : tie.Need-put-pair-requires
 put-pair-requires c κs = search needs
 
--- src/lib.rt:36:1
 same-length : tie.Need-same-length
 same-length c = search needs
 
--- src/lib.rt:36:1
 returns-3 : tie.Need-returns-3
-returns-3 c = ?
+returns-3 c =
+    let a = c .before .before .before .before .before .before .before .args in
+    rw (ne-eqb (a .p) 0 (c .before .before .before .before .before .if1 .left), ne-eqb (a .p) (a .n + 1) (c .before .before .before .before .if2 .left)) (refl, c .before .before .put-pair .ensures)
 
 pub put-hit-spec : {M : Type 1} → statement M
 put-hit-spec =

@@ -1,64 +1,55 @@
+-- By which of the two is smaller.
+use native.Mathlib.Numerals.{add-one}
+use native.Mathlib.Omega.{arith}
+use borrow.Author.Tests.{lt-ltb, le-ltb}
+use lib.ListN.{length-set}
 use borrow.Author.Needs.{needs}
 use Rattle.repeats.proofs.put_pair.Statement.{statement}
 use Rattle.repeats.proofs.put_pair.Tie as tie
 use Rattle.repeats.proofs.put_pair.Reads as reads
 use Rattle.repeats.proofs.put_pair.Lts as lts
 
--- src/lib.rt:27:9
 mul-work : tie.Need-mul-work
 mul-work c = search needs
 
--- src/lib.rt:27:9
 slice-write-work : tie.Need-slice-write-work
 slice-write-work c = search needs
 
--- src/lib.rt:28:14
 add-work : tie.Need-add-work
 add-work c = search needs
 
--- src/lib.rt:28:9
 mul-work-2 : tie.Need-mul-work-2
 mul-work-2 c = search needs
 
--- src/lib.rt:28:9
 slice-write-work-2 : tie.Need-slice-write-work-2
-slice-write-work-2 c = ?
+slice-write-work-2 c = simp length-set (omega arith)
 
--- src/lib.rt:30:9
 mul-work-3 : tie.Need-mul-work-3
 mul-work-3 c = search needs
 
--- src/lib.rt:30:9
 slice-write-work-3 : tie.Need-slice-write-work-3
 slice-write-work-3 c = search needs
 
--- src/lib.rt:31:14
 add-work-2 : tie.Need-add-work-2
 add-work-2 c = search needs
 
--- src/lib.rt:31:9
 mul-work-4 : tie.Need-mul-work-4
 mul-work-4 c = search needs
 
--- src/lib.rt:31:9
 slice-write-work-4 : tie.Need-slice-write-work-4
-slice-write-work-4 c = ?
+slice-write-work-4 c = simp length-set (omega arith)
 
--- src/lib.rt:22:1
 same-length : tie.Need-same-length
 same-length c = search needs
 
--- src/lib.rt:22:1
 returns : tie.Need-returns
-returns c = ?
+returns c = rw (lt-ltb (c .before .args .n) (c .before .args .q) (c .if1 .taken), add-one (c .before .args .o))
 
--- src/lib.rt:22:1
 same-length-2 : tie.Need-same-length-2
 same-length-2 c = search needs
 
--- src/lib.rt:22:1
 returns-2 : tie.Need-returns-2
-returns-2 c = ?
+returns-2 c = rw (le-ltb (c .before .args .n) (c .before .args .q) (c .if1 .left), add-one (c .before .args .o))
 
 pub put-pair-spec : {M : Type 1} → statement M
 put-pair-spec =
