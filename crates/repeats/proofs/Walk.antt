@@ -2,7 +2,7 @@
 use Prim.Native.Nat.{ℕ, _+_, _-_, _<_}
 use mathlib.Core.Path.{_≡_, refl, sym, ap, ap₂, _∙_}
 use mathlib.Core.Logic.{_⊎_, inl, inr}
-use mathlib.Core.Bool.{Bool, true, false, not, _||_}
+use mathlib.Core.Bool.{Bool, true, false, not}
 use mathlib.Core.List.{List, [], _∷_, _++_, map, append-nil}
 use native.Mathlib.Omega.{arith}
 use borrow.Author.Tests.{eqb-true, eqb-false, eq-eqb, ne-eqb}
@@ -11,7 +11,7 @@ use lib.ListN.{length, getD, set, replicate, length-set, length-replicate, getD-
 use lib.Seq.{ext-getD, getD-set-same, getD-set-other}
 use Rattle.laws.specs.Lists.{onlyIf, any, last, walk, keep}
 use Rattle.laws.specs.Merging.{AllBelow}
-use Rattle.laws.proofs.Tests.{tested, clash, or-none}
+use Rattle.laws.proofs.Tests.{tested, or-none}
 use Rattle.laws.proofs.ListLaws.{keep-append}
 use Rattle.findings.specs.Rules.{pairOf, repeatAt}
 use Rattle.repeats.specs.Marks.{hit, hits, mark}

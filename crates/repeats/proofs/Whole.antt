@@ -1,5 +1,5 @@
 -- The four steps of `list_repeats`, as lists.
-use Prim.Native.Nat.{ℕ, _+_, _*_, _≤_, _<_}
+use Prim.Native.Nat.{ℕ, _+_, _*_, _≤_}
 use mathlib.Core.Path.{_≡_, refl, sym, ap, ap₂, _∙_, subst}
 use mathlib.Core.List.{List}
 use native.Mathlib.Omega.{arith}
@@ -33,9 +33,6 @@ module _ (at : Regions) (words w one : List ℕ) (m : ℕ) (R : Ready words w at
 
   abbrev M : List ℕ
   M = mark (weldIn at w) (λ n. n + 1) (marksIn at w) (nodesIn words)
-
-  room : at .spare + 2 * length words ≤ length w
-  room = R .fourth
 
   M-length : length M ≡ at .nodes
   M-length =

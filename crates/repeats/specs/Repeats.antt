@@ -16,7 +16,6 @@ pub record Ready (words w : List ℕ) (at : Regions) : Type 0 where
   pub second : at .last + at .nodes ≤ at .pairs
   pub third : at .pairs + 2 * length words ≤ at .spare
   pub fourth : at .spare + 2 * length words ≤ length w
-  pub short : length words < 2 ^ 32
   pub small : at .nodes < 2 ^ 32
   pub clean : region (at .last) (at .nodes) w ≡ replicate (at .nodes) 0
   pub inside : AllBelow (at .nodes) (nodesIn words)

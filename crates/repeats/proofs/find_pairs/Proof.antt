@@ -14,9 +14,6 @@ use Rattle.repeats.specs.Marks.{nodesIn, hits, mark, weldIn, marksIn, pl
 use Rattle.repeats.proofs.Rounds.{nodes-skip, nodes-next, weld-read, weld-inside, number-inside, hit-short, turn-count, turn-length, turn-front, turn-stored}
 use Rattle.repeats.proofs.find_pairs.Statement.{statement}
 use Rattle.repeats.proofs.find_pairs.Tie as tie
-use Rattle.repeats.proofs.find_pairs.Reads as reads
-use Rattle.repeats.proofs.find_pairs.Lts as lts
-use Rattle.repeats.proofs.note.Reads as note-reads
 
 abbrev Inv-loop : tie.InvT-loop
 Inv-loop words work₀ at k₀ i₀ work k i = (i ≤ length words) × (k ≤ i) × (length work ≡ length work₀) × (take (at .last) work ≡ take (at .last) work₀) × AllBelow (at .nodes) (nodesIn (drop i words)) × (k + length (hits (weldIn at work₀) (marksIn at work) (nodesIn (drop i words))) ≡ length (hits (weldIn at work₀) (marksIn at work₀) (nodesIn words))) × (sets (sets work (at .last) (mark (weldIn at work₀) (λ n. n + 1) (marksIn at work) (nodesIn (drop i words)))) (at .pairs + 2 * k) (flat (hits (weldIn at work₀) (marksIn at work) (nodesIn (drop i words)))) ≡ sets (sets work₀ (at .last) (mark (weldIn at work₀) (λ n. n + 1) (marksIn at work₀) (nodesIn words))) (at .pairs) (flat (hits (weldIn at work₀) (marksIn at work₀) (nodesIn words))))

@@ -12,9 +12,6 @@ use Rattle.repeats.specs.Marks.{nodesIn, mark, weldIn, marksIn}
 use Rattle.repeats.proofs.Rounds.{nodes-skip, nodes-next, weld-read, weld-inside, number-inside, turn-mark}
 use Rattle.repeats.proofs.forget.Statement.{statement}
 use Rattle.repeats.proofs.forget.Tie as tie
-use Rattle.repeats.proofs.forget.Reads as reads
-use Rattle.repeats.proofs.forget.Lts as lts
-use Rattle.repeats.proofs.place.Reads as place-reads
 
 abbrev Inv-loop : tie.InvT-loop
 Inv-loop words work₀ at i₀ work i = (i ≤ length words) × (length work ≡ length work₀) × (take (at .last) work ≡ take (at .last) work₀) × AllBelow (at .nodes) (nodesIn (drop i words)) × (sets work (at .last) (mark (weldIn at work₀) (λ n. 0) (marksIn at work) (nodesIn (drop i words))) ≡ sets work₀ (at .last) (mark (weldIn at work₀) (λ n. 0) (marksIn at work₀) (nodesIn words)))

@@ -1,36 +1,44 @@
+-- What the four steps come to is said on lists, in Whole.
+use Rattle.repeats.proofs.Whole.{still-welded, listed}
 use borrow.Author.Needs.{needs}
 use Rattle.repeats.proofs.list_repeats.Statement.{statement}
 use Rattle.repeats.proofs.list_repeats.Tie as tie
-use Rattle.repeats.proofs.list_repeats.Reads as reads
-use Rattle.repeats.proofs.list_repeats.Lts as lts
-use Rattle.pair_sort.proofs.sort_pairs.Reads as sort-pairs-reads
-use Rattle.pair_sort.proofs.unique_pairs.Reads as unique-pairs-reads
-use Rattle.repeats.proofs.find_pairs.Reads as find-pairs-reads
-use Rattle.repeats.proofs.forget.Reads as forget-reads
 
--- src/lib.rt:112:9
 find-pairs-requires : tie.Need-find-pairs-requires
 find-pairs-requires c κs = search needs
 
--- src/lib.rt:113:5
 forget-requires : tie.Need-forget-requires
-forget-requires c κs = ?
+forget-requires c κs =
+    let s = c .before .before .before .before .before .before .before in
+    let a = s .args in
+    let f = c .before .before .before .find-pairs in
+    record {
+      first = s .pre .first;
+      second = s .pre .second;
+      third = search needs;
+      small = s .pre .small;
+      inside = s .pre .inside;
+      welded = still-welded (a .at) (a .words .now) (a .work .now) (f .last .1 .0) (f .result) (s .pre) (f .ensures);
+    }
 
--- src/lib.rt:114:5
 sort-pairs-requires : tie.Need-sort-pairs-requires
 sort-pairs-requires c κs = search needs
 
--- src/lib.rt:115:5
 unique-pairs-requires : tie.Need-unique-pairs-requires
 unique-pairs-requires c κs = search needs
 
--- src/lib.rt:108:1
 same-length : tie.Need-same-length
 same-length c = search needs
 
--- src/lib.rt:108:1
 returns : tie.Need-returns
-returns c = ?
+returns c =
+    let s = c .before .before .before .before .before .before .before .before .before .before .before .before .before .before .before .before .before .before in
+    let a = s .args in
+    let f = c .before .before .before .before .before .before .before .before .before .before .before .before .before .before .find-pairs in
+    let u = c .before .before .unique-pairs in
+    listed (a .at) (a .words .now) (a .work .now) (f .last .1 .0) (f .result) (s .pre) (f .ensures)
+    (c .before .before .before .before .before .before .before .before .before .before .forget .last .1 .0) (c .before .before .before .before .before .before .sort-pairs .last .0) (u .last .0) (u .result)
+    (c .before .before .before .before .before .before .before .before .before .before .forget .ensures) (c .before .before .before .before .before .before .sort-pairs .ensures) (u .ensures .0) (u .ensures .1)
 
 pub list-repeats-spec : {M : Type 1} → statement M
 list-repeats-spec =

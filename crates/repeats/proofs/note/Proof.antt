@@ -10,10 +10,6 @@ use Rattle.repeats.proofs.Rounds.{hit-short}
 use borrow.Author.Needs.{needs}
 use Rattle.repeats.proofs.note.Statement.{statement}
 use Rattle.repeats.proofs.note.Tie as tie
-use Rattle.repeats.proofs.note.Reads as reads
-use Rattle.repeats.proofs.note.Lts as lts
-use Rattle.repeats.proofs.place.Reads as place-reads
-use Rattle.repeats.proofs.put_hit.Reads as put-hit-reads
 
 place-requires : tie.Need-place-requires
 place-requires c κs = search needs

@@ -5,9 +5,6 @@ use lib.ListN.{getD}
 use borrow.Author.Needs.{needs}
 use Rattle.repeats.proofs.place.Statement.{statement}
 use Rattle.repeats.proofs.place.Tie as tie
-use Rattle.repeats.proofs.place.Reads as reads
-use Rattle.repeats.proofs.place.Lts as lts
-use Rattle.mesh.proofs.wide.Reads as wide-reads
 
 wide-requires : tie.Need-wide-requires
 wide-requires c κs = search needs

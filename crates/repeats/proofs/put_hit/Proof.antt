@@ -5,9 +5,6 @@ use borrow.Author.Tests.{eq-eqb, ne-eqb}
 use borrow.Author.Needs.{needs}
 use Rattle.repeats.proofs.put_hit.Statement.{statement}
 use Rattle.repeats.proofs.put_hit.Tie as tie
-use Rattle.repeats.proofs.put_hit.Reads as reads
-use Rattle.repeats.proofs.put_hit.Lts as lts
-use Rattle.repeats.proofs.put_pair.Reads as put-pair-reads
 
 returns : tie.Need-returns
 returns c = rw (eq-eqb (c .before .before .args .p) 0 (c .if1 .taken)) (refl, refl)

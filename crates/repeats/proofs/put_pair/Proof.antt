@@ -6,8 +6,6 @@ use lib.ListN.{length-set}
 use borrow.Author.Needs.{needs}
 use Rattle.repeats.proofs.put_pair.Statement.{statement}
 use Rattle.repeats.proofs.put_pair.Tie as tie
-use Rattle.repeats.proofs.put_pair.Reads as reads
-use Rattle.repeats.proofs.put_pair.Lts as lts
 
 mul-work : tie.Need-mul-work
 mul-work c = search needs
