@@ -30,7 +30,7 @@ unfolding recordOf recordBytes
 record-64 R x = refl
 
 -- so many records have 64 times as many bytes
-records-64 : (R : Rules) (l : List Finding) → length (each (recordOf R) l) ≡ 64 * length l
+pub records-64 : (R : Rules) (l : List Finding) → length (each (recordOf R) l) ≡ 64 * length l
 records-64 R [] = refl
 records-64 R (x ∷ l) = omega (arith, length-append (recordOf R x) (each (recordOf R) l), record-64 R x, records-64 R l)
 

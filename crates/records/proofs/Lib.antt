@@ -1,2 +1,3 @@
 -- Reading back what was written.
 pub mod Back
+pub mod Keeping

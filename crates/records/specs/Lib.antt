@@ -1,2 +1,3 @@
--- The fields of a record.
+-- The fields of a record, and findings kept.
 pub mod Read
+pub mod Keeping

@@ -1,11 +1,12 @@
 // The 64-byte record of a finding: written, and its fields read.
 ghost use mathlib.Core.Path.{_≡_};
-ghost use Prim.Native.Nat.{_+_, _≤_};
+ghost use Prim.Native.Nat.{_+_, _*_, _^_, _≤_};
 ghost use lib.ListN.{length};
 ghost use lib.Seq.{slice, sets};
 ghost use Rattle.laws.specs.Bytes.{number};
 ghost use Rattle.findings.specs.Records.{pointBytes, recordBytes};
 ghost use Rattle.records.specs.Read.{fieldsIn, told, wordBytes};
+ghost use Rattle.records.specs.Keeping.{KeptOne};
 
 // A finding's fields: kind, first cell, second cell, item a, item b, count.
 pub struct Record {
@@ -58,6 +59,24 @@ pub fn put_record(out: &mut [u8], at: usize, r: Record, centre: geometry::Point)
 {
     let e = at + 64;
     put_whole(&mut out[at..e], r, centre);
+}
+
+// One more finding behind n: its record is kept while there is room, and it is counted.
+pub fn keep_record(
+    findings: &mut [u8],
+    room: usize,
+    n: usize,
+    r: Record,
+    centre: geometry::Point,
+) -> usize
+    requires { ⌜ (64 * room ≤ length (now findings)) × (n + 1 ≤ 2 ^ 57) ⌝ }
+    ensures { λ k. ⌜ KeptOne room n r centre (now (findings .entry)) (now (findings .exit)) k ⌝ }
+{
+    if n < room {
+        put_record(findings, 64 * n, r, centre);
+        return n + 1;
+    }
+    n + 1
 }
 
 // Four bytes from `at` on, as a word.

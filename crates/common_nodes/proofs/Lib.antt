@@ -1,0 +1,2 @@
+-- Laws on common nodes.
+pub mod Picking

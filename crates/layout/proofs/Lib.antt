@@ -1,0 +1,3 @@
+-- What follows from the tables' standing.
+pub mod Reading
+pub mod Again

@@ -1,0 +1,2 @@
+-- For internal contracts: what the tables of cells hold.
+pub mod Owners
