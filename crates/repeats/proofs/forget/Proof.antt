@@ -114,8 +114,8 @@ loop-again-2 c =
     let l : a .at .last + a .at .nodes ≤ length w = omega arith in
     let b = inside (c .before .before) in (
       search needs,
-      length-set w m 0 ∙ at .loop .inv .1,
-      take-set-le (a .at .last) w m 0 (omega arith) ∙ at .loop .inv .2,
+      length-set w m _ ∙ at .loop .inv .1,
+      take-set-le (a .at .last) w m _ (omega arith) ∙ at .loop .inv .2,
       below (c .before .before) .1,
       rw p (turn-mark (a .at) (weldIn (a .at) (a .work .now)) w (getD ws i 0) b l (λ x. 0) (nodesIn (drop (i + 1) ws))) ∙ (rw step at (at .loop .inv .4)),
     )
