@@ -25,7 +25,7 @@ pub record Ready (words w : List ℕ) (at : Regions) : Type 0 where
 abbrev pub repeatsIn : Regions → List ℕ → List ℕ → List (ℕ × ℕ)
 repeatsIn at w words = repeatsOf (weldedBy (region (at .weld) (at .nodes) w)) words
 
--- they stand in their region, the marks are zero again, and all but the regions for pairs is as before
+-- they stand in their region, the marks are zero again, and what lies before the marks and behind the spare room is as it was
 pub record Listed (words w v : List ℕ) (at : Regions) (r : ℕ) : Type 0 where
   pub count : r ≡ length (repeatsIn at w words)
   pub stored : region (at .pairs) (2 * r) v ≡ flat (repeatsIn at w words)
