@@ -1,0 +1,2 @@
+-- Pairs of words in a slice.
+pub mod Pairs
