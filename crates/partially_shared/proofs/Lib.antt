@@ -1,3 +1,5 @@
 -- Laws of the search for a cell's partly shared pairs.
 pub mod Marking
 pub mod Searched
+pub mod CellSearch
+pub mod Told

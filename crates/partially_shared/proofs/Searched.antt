@@ -5,12 +5,12 @@ use mathlib.Core.Bool.{Bool, true, false}
 use mathlib.Core.List.{List, [], _∷_, _++_, map, append-nil, append-assoc, map-append}
 use native.Mathlib.Omega.{arith}
 use lib.ListN.{length, getD, take, drop, replicate, getD-replicate}
-use lib.Seq.{sets, take-suc, take-all, take-take, getD-take}
+use lib.Seq.{length-sets, take-suc, take-all, take-take, getD-take}
 use Rattle.laws.specs.Lists.{onlyIf, first, each, keep, upFrom}
 use Rattle.laws.specs.Merging.{region, AllBelow}
 use Rattle.laws.proofs.Bounds.{below-at, below-append, below-upFrom}
 use Rattle.laws.proofs.ListLaws.{each-append, keep-append, keep-length, length-upFrom, upFrom-snoc}
-use Rattle.laws.proofs.Stores.{getD-region, region-same, take-before, drop-after}
+use Rattle.laws.proofs.Stores.{getD-region, getD-after, region-same, take-before, drop-after}
 use Rattle.findings.specs.Findings.{Rules}
 use Rattle.index.specs.declared.Places.{Places}
 use Rattle.index.specs.Faces.{input, base, Indexed}
@@ -162,3 +162,39 @@ module _ (R : Rules) (l : Layout) (f : ℕ) (w : List ℕ) (r : Range) (search :
 pub candidates-few : (p : Places) (t : List ℕ) (f : ℕ) → length (candidates p t f) ≤ p .faces
 unfolding candidates
 candidates-few p t f = omega (arith, keep-length (shares p t f) (upFrom 0 (p .faces)), length-upFrom 0 (p .faces))
+
+-- ---- after a face's search
+
+module _ (l : Layout) (w u : List ℕ) (f n : ℕ) (s : Searching l w) (found : Sought (l .at) f w u n) where
+  abbrev cs : List ℕ
+  cs = candidates (l .at) (input (l .at) w) f
+
+  fits : l .at .found + length cs ≤ l .marks
+  fits = omega (arith, candidates-few (l .at) (input (l .at) w) f, s .spaced .marks-at)
+
+  pub sought-beside : Beside (l .at .found) l w u
+  sought-beside = record {
+    before = ap (take (l .at .found)) (found .filled) ∙ take-before (l .at .found) w (l .at .found) cs (omega arith);
+    behind = ap (drop (l .last)) (found .filled) ∙ drop-after (l .last) w (l .at .found) cs (omega (arith, fits, s .spaced .others-at, s .spaced .last-at));
+    long = ap length (found .filled) ∙ length-sets w (l .at .found) cs;
+  }
+
+  -- the candidates stand there
+  pub sought-there : region (l .at .found) n u ≡ candidates (l .at) (input (l .at) u) f
+  sought-there =
+      ap₂ (λ (k : ℕ) (v : List ℕ). region (l .at .found) k v) (found .number) (found .filled)
+      ∙ region-same w (l .at .found) cs (omega (arith, fits, s .spaced .others-at, s .spaced .last-at, s .spaced .pairs-at, s .spaced .spare-at, s .spaced .ends))
+      ∙ ap (λ (t : List ℕ). candidates (l .at) t f) (sym (input-on l w u s sought-beside))
+
+  pub sought-number : n ≡ length (candidates (l .at) (input (l .at) u) f)
+  sought-number = found .number ∙ ap (λ (t : List ℕ). length (candidates (l .at) t f)) (sym (input-on l w u s sought-beside))
+
+  -- the marks are as they were
+  pub sought-marks : (i : ℕ) → l .marks ≤ i → getD u i 0 ≡ getD w i 0
+  sought-marks i h = ap (λ (v : List ℕ). getD v i 0) (found .filled) ∙ getD-after w (l .at .found) cs i 0 (omega (arith, fits, h))
+
+  -- so what is marked after it is marked from before it
+  pub sought-more : (R : Rules) (v : List ℕ) (q r : Range) → MarkedMore l (input (l .at) u) (faceHits R l (input (l .at) u) f) u v q r → MarkedMore l (input (l .at) w) (faceHits R l (input (l .at) w) f) w v q r
+  sought-more R v q r a =
+      more-from l (input (l .at) w) (faceHits R l (input (l .at) w) f) w u v q r sought-marks (omega (arith, s .spaced .others-at))
+      (subst (λ (t : List ℕ). MarkedMore l t (faceHits R l t f) u v q r) (input-on l w u s sought-beside) a)

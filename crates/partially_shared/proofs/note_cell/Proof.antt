@@ -1,0 +1,84 @@
+-- `partially_shared::note_cell` meets its contract.
+use Prim.Native.Nat.{ℕ, _+_, _-_, _≤_, _<_}
+use mathlib.Core.Path.{_≡_, refl}
+use native.Mathlib.Omega.{arith}
+use borrow.Author.Needs.{needs}
+use lib.ListN.{length}
+use Rattle.index.specs.Faces.{input}
+use Rattle.layout.specs.Tables.{firstOf}
+use Rattle.layout.specs.ByCell.{plainRules}
+use Rattle.partially_shared.proofs.Searched.{searches}
+use Rattle.partially_shared.proofs.CellSearch.{Facing, facing-start, facing-next, facing-end}
+use Rattle.partially_shared.proofs.note_cell.Statement.{statement}
+use Rattle.partially_shared.proofs.note_cell.Tie as tie
+
+abbrev Inv-loop : tie.InvT-loop
+Inv-loop coords tol work₀ l c by-nodes end s₀ f₀ work s f = Facing (plainRules coords tol) l f₀ work₀ work s f × (length work ≡ length work₀) × (f₀ ≤ f) × (f ≤ end)
+
+abbrev μ-loop : tie.MeasureT-loop
+μ-loop coords tol work₀ l c by-nodes end s₀ f₀ work s f = end - f
+
+add-first-face : tie.Need-add-first-face Inv-loop μ-loop
+add-first-face c = search needs
+
+first-face-requires : tie.Need-first-face-requires Inv-loop μ-loop
+first-face-requires c κs = (c .before .before .before .before .pre .0 .faced, omega (arith, c .before .before .before .before .pre .1 .0))
+
+first-face-requires-2 : tie.Need-first-face-requires-2 Inv-loop μ-loop
+first-face-requires-2 c κs = (c .before .before .before .before .before .before .pre .0 .faced, omega (arith, c .before .before .before .before .before .before .pre .1 .0))
+
+loop-holds : tie.Need-loop-holds Inv-loop μ-loop
+loop-holds c =
+    let b = c .before .before .before .before .before .before .before in
+    let a = b .args in
+    (facing-start (plainRules (a .coords .now) (a .tol)) (a .l) (a .work .now) _ (c .first-face2 .result) (b .pre .0) refl, omega arith, omega arith, omega (arith, c .first-face2 .ensures .0, c .before .before .first-face .ensures .0, b .pre .0 .faced .first-rising (a .c) (b .pre .1 .0)))
+
+note-face-requires : tie.Need-note-face-requires Inv-loop μ-loop
+note-face-requires c κs =
+    let b = c .before .before .before .before .before .before .before .before .before .before in
+    let o = c .before .before .loop in
+    (o .inv .0 .search, (omega (arith, c .before .loop-test .taken, c .before .before .before .before .before .first-face .ensures .1), b .pre .1 .1, o .inv .0 .high))
+
+add-f : tie.Need-add-f Inv-loop μ-loop
+add-f c = search needs
+
+loop-less : tie.Need-loop-less Inv-loop μ-loop
+loop-less c = search needs
+
+loop-again : tie.Need-loop-again Inv-loop μ-loop
+loop-again c =
+    let b = c .before .before .before .before .before .before .before .before .before .before .before .before .before in
+    let a = b .args in
+    let o = c .before .before .before .before .before .loop in
+    let y = c .before .before .note-face in
+    let next = facing-next (plainRules (a .coords .now) (a .tol)) (a .l) _ (a .work .now) (o .work) _ (o .s) (y .result) (o .f) (searches (a .l) (a .work .now) (b .pre .0)) (o .inv .2) (o .inv .0) (y .ensures .0) (y .ensures .1 .0) (y .ensures .1 .1) in
+    (next, next .beside .long, omega (arith, o .inv .2), omega (arith, c .before .before .before .before .loop-test .taken))
+
+same-length : tie.Need-same-length Inv-loop μ-loop
+same-length c = search needs
+
+returns : tie.Need-returns Inv-loop μ-loop
+returns c =
+    let b = c .before .before .before .before .before .before .before .before .before in
+    let a = b .args in
+    let o = c .before .loop in
+    let t = input (a .l .at) (a .work .now) in
+    let done : o .f ≡ firstOf (a .l) t (a .c + 1) = omega (arith, o .inv .3, c .loop-test .left, c .before .before .before .before .first-face .ensures .0) in
+    (facing-end (plainRules (a .coords .now) (a .tol)) (a .l) (a .work .now) (o .work) (o .s) (a .c) _ (o .f) (c .before .before .first-face2 .ensures .0) done (o .inv .0), (o .inv .0 .beside, o .inv .0 .high))
+
+pub note-cell-spec : {M : Type 1} → statement M
+note-cell-spec =
+    tie.close
+    (tie.spec
+    Inv-loop
+    μ-loop
+    add-first-face
+    first-face-requires
+    first-face-requires-2
+    loop-holds
+    note-face-requires
+    add-f
+    loop-less
+    loop-again
+    same-length
+    returns)
