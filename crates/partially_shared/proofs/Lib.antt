@@ -3,3 +3,4 @@ pub mod Marking
 pub mod Searched
 pub mod CellSearch
 pub mod Told
+pub mod Cleared

@@ -80,8 +80,16 @@ markTells l t w c b =
 abbrev pub KeptAny : List Float → ℕ → ℕ → List Finding → List ℕ → List ℕ → ℕ → Type 0
 KeptAny c room n xs f f' k = (tol : Float) → Kept (plainRules c tol) room n xs f f' k
 
--- marks of the cells from b on are as in w, those before are zero
-pub record Clearing (l : Layout) (w : List ℕ) (r : Range) (b : ℕ) (v : List ℕ) : Type 0 where
+-- a mark of cell b, where there is one, tells faces
+abbrev pub MarkFits : Layout → List ℕ → ℕ → Type 0
+MarkFits l w b = getD w (l .marks + b) 0 ≢ 0 → (getD w (l .marks + b) 0 ≤ l .at .faces) × (getD w (l .others + b) 0 < l .at .faces)
+
+abbrev pub MarksFit : Layout → List ℕ → Type 0
+MarksFit l w = (b : ℕ) → b < l .at .«cell_count» → MarkFits l w b
+
+-- w became v: the marks of cells from a on, before b, are zero; those from b on are as before, and no other was set
+pub record Clearing (l : Layout) (w : List ℕ) (a b : ℕ) (v : List ℕ) : Type 0 where
   pub beside : Beside (l .marks) l w v
-  pub zero : (i : ℕ) → i < l .at .«cell_count» → i < b → getD v (l .marks + i) 0 ≡ 0
+  pub cleared : (i : ℕ) → i < l .at .«cell_count» → a ≤ i → i < b → getD v (l .marks + i) 0 ≡ 0
   pub same : (i : ℕ) → i < l .at .«cell_count» → b ≤ i → (getD v (l .marks + i) 0 ≡ getD w (l .marks + i) 0) × (getD v (l .others + i) 0 ≡ getD w (l .others + i) 0)
+  pub still : (i : ℕ) → i < l .at .«cell_count» → getD w (l .marks + i) 0 ≡ 0 → getD v (l .marks + i) 0 ≡ 0

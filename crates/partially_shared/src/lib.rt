@@ -12,7 +12,7 @@ ghost use Rattle.seek.specs.Candidates.{candidates};
 ghost use Rattle.records.specs.Keeping.{Kept};
 ghost use Rattle.layout.specs.Tables.{Spaced, Standing, Still};
 ghost use Rattle.layout.specs.ByCell.{plainRules, partlyCell};
-ghost use Rattle.partially_shared.specs.Hits.{passing, faceHits, cellHits, Marked, MarkedMore, Higher, Searching, Beside, toldBy, markTells, KeptAny, Clearing};
+ghost use Rattle.partially_shared.specs.Hits.{passing, faceHits, cellHits, Marked, MarkedMore, Higher, Searching, Beside, toldBy, markTells, KeptAny, MarkFits, MarksFit, Clearing};
 
 // The cells from lo on, before hi.
 pub struct Range {
@@ -199,4 +199,79 @@ fn keep_pair(
         count: counting::narrow(s.count),
     };
     records::keep_record(findings, room, n, r, s.centre)
+}
+
+// The finding of cell b where it is marked; its mark becomes zero.
+fn keep_marked(
+    coords: &[f64],
+    work: &mut [u32],
+    l: layout::Layout,
+    c: usize,
+    b: usize,
+    findings: &mut [u8],
+    room: usize,
+    n: usize,
+) -> usize
+    requires { ⌜ Searching l (now work) ⌝ }
+    requires { ⌜ (c < l .at .«cell_count») × (b < l .at .«cell_count») × (l .at .nodes ≡ nodeCount (now coords)) × MarkFits l (now work) b ⌝ }
+    requires { ⌜ (64 * room ≤ length (now findings)) × (n + 1 ≤ 2 ^ 57) ⌝ }
+    ensures { λ k. ⌜ KeptAny (now (coords .entry)) room n (markTells l (input (l .at) (now (work .entry))) (now (work .entry)) c b) (now (findings .entry)) (now (findings .exit)) k ⌝ }
+    ensures { λ k. ⌜ (now (work .exit) ≡ set (now (work .entry)) (l .marks + b) 0) × (k ≤ n + 1) ⌝ }
+{
+    let m = l.marks + b;
+    if work[m] == 0 {
+        return n;
+    }
+    let k = keep_pair(coords, work, l, c, b, findings, room, n);
+    work[m] = 0;
+    k
+}
+
+// The findings of the marked cells of a range, in order; all their marks become zero.
+fn keep_range(
+    coords: &[f64],
+    work: &mut [u32],
+    l: layout::Layout,
+    c: usize,
+    r: Range,
+    findings: &mut [u8],
+    room: usize,
+    n: usize,
+) -> usize
+    requires { ⌜ Searching l (now work) ⌝ }
+    requires { ⌜ (c < l .at .«cell_count») × (r .hi ≤ l .at .«cell_count») × (l .at .nodes ≡ nodeCount (now coords)) × MarksFit l (now work) ⌝ }
+    requires { ⌜ (64 * room ≤ length (now findings)) × (n ≤ 2 ^ 56) ⌝ }
+    ensures { λ k. ⌜ KeptAny (now (coords .entry)) room n (each (markTells l (input (l .at) (now (work .entry))) (now (work .entry)) c) (upFrom (r .lo) (r .hi - r .lo))) (now (findings .entry)) (now (findings .exit)) k ⌝ }
+    ensures { λ k. ⌜ Clearing l (now (work .entry)) (r .lo) (r .hi) (now (work .exit)) × (k ≤ n + 2 ^ 18) ⌝ }
+{
+    let hi = r.hi;
+    let mut k = n;
+    let mut b = r.lo;
+    while b < hi {
+        k = keep_marked(coords, work, l, c, b, findings, room, k);
+        b += 1;
+    }
+    k
+}
+
+// The partly shared pairs whose first cell is c.
+pub fn keep_partly(
+    coords: &[f64],
+    tol: f64,
+    work: &mut [u32],
+    l: layout::Layout,
+    c: usize,
+    by_nodes: bool,
+    findings: &mut [u8],
+    room: usize,
+    n: usize,
+) -> usize
+    requires { ⌜ Standing l (now work) ⌝ }
+    requires { ⌜ (c < l .at .«cell_count») × (l .at .nodes ≡ nodeCount (now coords)) ⌝ }
+    requires { ⌜ (64 * room ≤ length (now findings)) × (n ≤ 2 ^ 56) ⌝ }
+    ensures { λ k. ⌜ Kept (plainRules (now (coords .entry)) tol) room n (partlyCell (plainRules (now (coords .entry)) tol) l (input (l .at) (now (work .entry))) c) (now (findings .entry)) (now (findings .exit)) k ⌝ }
+    ensures { λ k. ⌜ (k ≤ n + 2 ^ 18) × Still l (now (work .entry)) (now (work .exit)) ⌝ }
+{
+    let r = note_cell(coords, tol, work, l, c, by_nodes);
+    keep_range(coords, work, l, c, r, findings, room, n)
 }
