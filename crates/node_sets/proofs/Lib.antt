@@ -1,0 +1,3 @@
+-- What the tables say of the keys and node sets of faces.
+pub mod Unique
+pub mod Reading
