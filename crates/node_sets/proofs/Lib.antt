@@ -1,3 +1,4 @@
 -- What the tables say of the keys and node sets of faces.
 pub mod Unique
 pub mod Reading
+pub mod Keys

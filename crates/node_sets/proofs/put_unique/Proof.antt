@@ -1,169 +1,85 @@
--- `node_sets::put_unique` meets its contract. The invariant: what is left to be put, put behind what is there, is the whole.
-use Prim.Native.Nat.{ℕ, suc, _+_, _-_, _≤_, _<_}
-use mathlib.Core.Path.{_≡_, refl, sym, ap, _∙_}
-use mathlib.Core.List.{List, [], _∷_}
+-- `node_sets::put_unique` meets its contract: the first word stays, and of the others those that rise.
+use Prim.Native.Nat.{ℕ, _+_, _≤_, _<_}
+use mathlib.Core.Path.{_≡_, sym, ap, _∙_}
+use mathlib.Core.List.{List, []}
 use native.Mathlib.Omega.{arith}
 use borrow.Author.Needs.{needs}
 use lib.Dec.{leb}
-use lib.ListN.{length, getD, set, take, drop, length-set}
+use lib.ListN.{length, getD, length-set}
 use lib.Seq.{sets}
 use Rattle.laws.specs.Merging.{region}
-use Rattle.laws.proofs.Stores.{getD-region, length-region, region-set-after}
-use Rattle.node_sets.specs.Unique.{rises, unique}
-use Rattle.node_sets.proofs.Unique.{first-length, first-sets, rises-same, rises-more, rises-end}
+use Rattle.node_sets.specs.Unique.{unique}
+use Rattle.node_sets.proofs.Unique.{all-count, all-put}
 use Rattle.node_sets.proofs.put_unique.Statement.{statement}
 use Rattle.node_sets.proofs.put_unique.Tie as tie
 
-abbrev Inv-loop : tie.InvT-loop
-Inv-loop work₀ a s n last₀ k₀ i₀ work last k i =
-    (i ≤ n) × (k ≤ i) × (length work ≡ length work₀) × (region a n work ≡ region a n work₀) × (k + length (rises leb last (drop i (region a n work₀))) ≡ length (unique leb (region a n work₀)))
-    × (sets work (s + k) (rises leb last (drop i (region a n work₀))) ≡ sets work₀ s (unique leb (region a n work₀)))
-
-abbrev μ-loop : tie.MeasureT-loop
-μ-loop work₀ a s n last₀ k₀ i₀ work last k i = n - i
-
-returns : tie.Need-returns Inv-loop μ-loop
+returns : tie.Need-returns
 returns c =
-    let a = c .before .args in
+    let a = c .before .before .args in
     let e : a .n ≡ 0 = c .if1 .taken in
     let none : region (a .a) (a .n) (a .work .now) ≡ [] = ap (λ (k : ℕ). region (a .a) k (a .work .now)) e in
     (ap (λ (r : List ℕ). length (unique leb r)) (sym none), omega arith, ap (λ (r : List ℕ). sets (a .work .now) (a .s) (unique leb r)) (sym none))
 
-mul-last : tie.Need-mul-last Inv-loop μ-loop
-mul-last c = search needs
+mul-x : tie.Need-mul-x
+mul-x c = search needs
 
-slice-read-last : tie.Need-slice-read-last Inv-loop μ-loop
-slice-read-last c = search needs
+slice-read-x : tie.Need-slice-read-x
+slice-read-x c = search needs
 
-mul-work : tie.Need-mul-work Inv-loop μ-loop
+mul-work : tie.Need-mul-work
 mul-work c = search needs
 
-slice-write-work : tie.Need-slice-write-work Inv-loop μ-loop
+slice-write-work : tie.Need-slice-write-work
 slice-write-work c = search needs
 
-loop-holds : tie.Need-loop-holds Inv-loop μ-loop
-loop-holds c =
-    let s = c .before .before in
-    let a = s .args in
-    let R = region (a .a) (a .n) (a .work .now) in
-    let x = getD (a .work .now) (a .a) 0 in
-    let long : length R ≡ a .n = length-region (a .a) (a .n) (a .work .now) (omega (arith, s .pre)) in
-    let some : 0 < length R = omega (arith, c .before .if1 .left) in
-    let zero : a .a + 0 ≡ a .a = omega arith in
-    let is : x ≡ getD R 0 0 = ap (λ (k : ℕ). getD (a .work .now) k 0) (sym zero) ∙ sym (getD-region (a .a) (a .n) (a .work .now) 0 0 (omega arith)) in
-    (
-      omega arith,
-      omega arith,
-      simp length-set,
-      region-set-after (a .a) (a .n) (a .work .now) (a .s) x (omega (arith, s .pre)),
-      first-length R x some is,
-      first-sets (a .work .now) (a .s) R x some is,
-    )
+add-put-rises : tie.Need-add-put-rises
+add-put-rises c = search needs
 
-add-v : tie.Need-add-v Inv-loop μ-loop
-add-v c = search needs
+add-put-rises-2 : tie.Need-add-put-rises-2
+add-put-rises-2 c = search needs
 
-mul-v : tie.Need-mul-v Inv-loop μ-loop
-mul-v c = search needs
+sub-put-rises : tie.Need-sub-put-rises
+sub-put-rises c = search needs
 
-slice-read-v : tie.Need-slice-read-v Inv-loop μ-loop
-slice-read-v c = search needs
-
-add-i : tie.Need-add-i Inv-loop μ-loop
-add-i c = search needs
-
-loop-less : tie.Need-loop-less Inv-loop μ-loop
-loop-less c = search needs
-
-loop-again : tie.Need-loop-again Inv-loop μ-loop
-loop-again c =
-    let s = c .before .before .before .before .before .before in
-    let a = s .args in
-    let at = c .before .before .before .loop in
-    let R = region (a .a) (a .n) (a .work .now) in
-    let v = getD (at .work) (a .a + at .i) 0 in
-    let long : length R ≡ a .n = length-region (a .a) (a .n) (a .work .now) (omega (arith, s .pre)) in
-    let is : v ≡ getD R (at .i) 0 = sym (getD-region (a .a) (a .n) (at .work) (at .i) 0 (c .before .before .loop-test .taken)) ∙ ap (λ (r : List ℕ). getD r (at .i) 0) (at .inv .3) in
-    let in-R : at .i < length R = omega (arith, c .before .before .loop-test .taken) in
-    let same = rises-same R (at .i) (at .last) v in-R is (c .if2 .taken) in
-    (omega (arith, c .before .before .loop-test .taken), omega (arith, at .inv .1), at .inv .2, at .inv .3, ap (λ (r : List ℕ). at .k + length r) (sym same) ∙ at .inv .4, ap (sets (at .work) (a .s + at .k)) (sym same) ∙ at .inv .5)
-
-add-work : tie.Need-add-work Inv-loop μ-loop
-add-work c = search needs
-
-mul-work-2 : tie.Need-mul-work-2 Inv-loop μ-loop
-mul-work-2 c = search needs
-
-slice-write-work-2 : tie.Need-slice-write-work-2 Inv-loop μ-loop
-slice-write-work-2 c = search needs
-
-add-k : tie.Need-add-k Inv-loop μ-loop
-add-k c = search needs
-
-add-i-2 : tie.Need-add-i-2 Inv-loop μ-loop
-add-i-2 c = search needs
-
-loop-less-2 : tie.Need-loop-less-2 Inv-loop μ-loop
-loop-less-2 c = search needs
-
-loop-again-2 : tie.Need-loop-again-2 Inv-loop μ-loop
-loop-again-2 c =
-    let s = c .before .before .before .before .before .before in
-    let a = s .args in
-    let at = c .before .before .before .loop in
-    let R = region (a .a) (a .n) (a .work .now) in
-    let v = getD (at .work) (a .a + at .i) 0 in
-    let long : length R ≡ a .n = length-region (a .a) (a .n) (a .work .now) (omega (arith, s .pre)) in
-    let is : v ≡ getD R (at .i) 0 = sym (getD-region (a .a) (a .n) (at .work) (at .i) 0 (c .before .before .loop-test .taken)) ∙ ap (λ (r : List ℕ). getD r (at .i) 0) (at .inv .3) in
-    let in-R : at .i < length R = omega (arith, c .before .before .loop-test .taken) in
-    let more = rises-more R (at .i) (at .last) v in-R is (c .if2 .left) in
-    let next : a .s + (at .k + 1) ≡ suc (a .s + at .k) = omega arith in
-    (
-      omega (arith, c .before .before .loop-test .taken),
-      omega (arith, at .inv .1),
-      simp length-set (at .inv .2),
-      region-set-after (a .a) (a .n) (at .work) (a .s + at .k) v (omega (arith, s .pre)) ∙ at .inv .3,
-      omega (arith, at .inv .4, ap length more),
-      ap (λ (o : ℕ). sets (set (at .work) (a .s + at .k) v) o (rises leb v (drop (at .i + 1) R))) next ∙ ap (sets (at .work) (a .s + at .k)) (sym more) ∙ at .inv .5,
-    )
-
-same-length : tie.Need-same-length Inv-loop μ-loop
-same-length c = c .before .loop .inv .2
-
-returns-2 : tie.Need-returns-2 Inv-loop μ-loop
-returns-2 c =
+put-rises-requires : tie.Need-put-rises-requires
+put-rises-requires c κs =
     let s = c .before .before .before .before in
     let a = s .args in
-    let at = c .before .loop in
-    let R = region (a .a) (a .n) (a .work .now) in
-    let long : length R ≡ a .n = length-region (a .a) (a .n) (a .work .now) (omega (arith, s .pre)) in
-    let none = rises-end R (at .i) (at .last) (omega (arith, c .loop-test .left)) in
-    (omega (arith, at .inv .4, ap length none), omega (arith, at .inv .0, at .inv .1), ap (sets (at .work) (a .s + at .k)) (sym none) ∙ at .inv .5)
+    (omega (arith, s .pre, c .before .before .if1 .left), omega (arith, s .pre, c .before .before .if1 .left, length-set (a .work .now) (a .s) (getD (a .work .now) (a .a) 0)))
+
+add-result : tie.Need-add-result
+add-result c = search needs
+
+same-length : tie.Need-same-length
+same-length c =
+    let a = c .before .before .before .before .before .before .before .args in
+    c .before .before .put-rises .kept .0 ∙ length-set (a .work .now) (a .s) (getD (a .work .now) (a .a) 0)
+
+returns-2 : tie.Need-returns-2
+returns-2 c =
+    let s = c .before .before .before .before .before .before .before in
+    let a = s .args in
+    let some : 0 < a .n = omega (arith, c .before .before .before .before .before .if1 .left) in
+    let e = c .before .before .put-rises .ensures in
+    (
+      all-count (a .work .now) (a .a) (a .s) (a .n) some (s .pre .0) (s .pre .1) _ (e .0),
+      omega (arith, e .1),
+      all-put (a .work .now) (a .a) (a .s) (a .n) some (s .pre .0) (s .pre .1) _ (e .2),
+    )
 
 pub put-unique-spec : {M : Type 1} → statement M
 put-unique-spec =
     tie.close
     (tie.spec
-    Inv-loop
-    μ-loop
     returns
-    mul-last
-    slice-read-last
+    mul-x
+    slice-read-x
     mul-work
     slice-write-work
-    loop-holds
-    add-v
-    mul-v
-    slice-read-v
-    add-i
-    loop-less
-    loop-again
-    add-work
-    mul-work-2
-    slice-write-work-2
-    add-k
-    add-i-2
-    loop-less-2
-    loop-again-2
+    add-put-rises
+    add-put-rises-2
+    sub-put-rises
+    put-rises-requires
+    add-result
     same-length
     returns-2)
