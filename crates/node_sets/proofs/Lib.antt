@@ -2,3 +2,4 @@
 pub mod Unique
 pub mod Reading
 pub mod Keys
+pub mod Putting

@@ -1,0 +1,96 @@
+-- `node_sets::put_set` meets its contract: the key of the face, without its repeats, is its node set.
+use Prim.Native.Nat.{ℕ, _+_}
+use mathlib.Core.Path.{_≡_, ap, ap₂, _∙_}
+use mathlib.Core.List.{List}
+use native.Mathlib.Omega.{arith}
+use borrow.Author.Needs.{needs}
+use lib.ListN.{length, set, length-set}
+use lib.Seq.{sets}
+use Rattle.node_sets.proofs.Putting.{bounds, set-is}
+use Rattle.node_sets.proofs.put_set.Statement.{statement}
+use Rattle.node_sets.proofs.put_set.Tie as tie
+
+row-requires : tie.Need-row-requires
+row-requires c κs = search needs
+
+add-row : tie.Need-add-row
+add-row c = search needs
+
+row-requires-2 : tie.Need-row-requires-2
+row-requires-2 c κs = search needs
+
+sub-n : tie.Need-sub-n
+sub-n c =
+    let s = c .before .before .before .before .before .before in
+    let a = s .args in
+    bounds (a .l) (a .work .now) (s .pre .0) (a .g) (c .before .before .row .result) (c .row2 .result) (s .pre .1) (c .before .before .row .ensures .0) (c .row2 .ensures .0) .0
+
+add-from : tie.Need-add-from
+add-from c = search needs
+
+add-to : tie.Need-add-to
+add-to c = search needs
+
+add-at : tie.Need-add-at
+add-at c = search needs
+
+narrow-requires : tie.Need-narrow-requires
+narrow-requires c κs = search needs
+
+mul-work : tie.Need-mul-work
+mul-work c = search needs
+
+slice-write-work : tie.Need-slice-write-work
+slice-write-work c = search needs
+
+put-unique-requires : tie.Need-put-unique-requires
+put-unique-requires c κs =
+    let s = c .before .before .before .before .before .before .before .before .before .before .before in
+    let a = s .args in
+    let b = bounds (a .l) (a .work .now) (s .pre .0) (a .g) (c .before .before .before .before .before .before .before .row .result) (c .before .before .before .before .before .row2 .result) (s .pre .1) (c .before .before .before .before .before .before .before .row .ensures .0) (c .before .before .before .before .before .row2 .ensures .0) in
+    let f = s .pre .0 in
+    (
+      omega (arith, b, f .starts-at, f .sets-at),
+      omega (arith, b, f .ends, s .pre .2, c .before .before .before .before .before .before .before .row .ensures .0, length-set (a .work .now) (a .l .at .starts + a .g) (c .before .narrow .result)),
+    )
+
+add-result : tie.Need-add-result
+add-result c = search needs
+
+same-length : tie.Need-same-length
+same-length c =
+    let a = c .before .before .before .before .before .before .before .before .before .before .before .before .before .before .args in
+    c .before .before .put-unique .kept .0 ∙ length-set (a .work .now) (a .l .at .starts + a .g) (c .before .before .before .before .narrow .result)
+
+returns : tie.Need-returns
+returns c =
+    let s = c .before .before .before .before .before .before .before .before .before .before .before .before .before .before in
+    let a = s .args in
+    let b = bounds (a .l) (a .work .now) (s .pre .0) (a .g) (c .before .before .before .before .before .before .before .before .before .before .row .result) (c .before .before .before .before .before .before .before .before .row2 .result) (s .pre .1) (c .before .before .before .before .before .before .before .before .before .before .row .ensures .0) (c .before .before .before .before .before .before .before .before .row2 .ensures .0) in
+    let v = c .before .before .before .before .narrow .result in
+    let is = set-is (a .l) (a .work .now) (s .pre .0) (a .g) (c .before .before .before .before .before .before .before .before .before .before .row .result) (c .before .before .before .before .before .before .before .before .row2 .result) (s .pre .1) (c .before .before .before .before .before .before .before .before .before .before .row .ensures .0) (c .before .before .before .before .before .before .before .before .row2 .ensures .0) v in
+    let e = c .before .before .put-unique .ensures in
+    (
+      ap (λ (n : ℕ). a .k + n) (e .0 ∙ ap length is),
+      omega (arith, b, e .1, s .pre .2, c .before .before .before .before .before .before .before .before .before .before .row .ensures .0, c .before .before .before .before .before .before .before .before .row2 .ensures .0),
+      e .2 ∙ ap₂ (λ (x : ℕ) (ys : List ℕ). sets (set (a .work .now) (a .l .at .starts + a .g) x) (a .l .at .sets + a .k) ys) (c .before .before .before .before .narrow .ensures) is,
+    )
+
+pub put-set-spec : {M : Type 1} → statement M
+put-set-spec =
+    tie.close
+    (tie.spec
+    row-requires
+    add-row
+    row-requires-2
+    sub-n
+    add-from
+    add-to
+    add-at
+    narrow-requires
+    mul-work
+    slice-write-work
+    put-unique-requires
+    add-result
+    same-length
+    returns)
