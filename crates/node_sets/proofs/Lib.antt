@@ -3,3 +3,4 @@ pub mod Unique
 pub mod Reading
 pub mod Keys
 pub mod Putting
+pub mod Remaining

@@ -1,24 +1,15 @@
 -- `node_sets::put_sets` meets its contract. The invariant: the sets of the faces that are left, put behind those there, are all.
-use Prim.Native.Nat.{ℕ, _+_, _-_, _≤_, _<_}
-use mathlib.Core.Path.{_≡_, refl, sym, ap, ap₂, _∙_}
-use mathlib.Core.List.{List, []}
+use Prim.Native.Nat.{ℕ, _+_, _-_, _≤_}
+use mathlib.Core.Path.{_≡_, _∙_, subst}
 use native.Mathlib.Omega.{arith}
 use borrow.Author.Needs.{needs}
-use lib.ListN.{length, getD, set, take, length-set}
-use lib.Seq.{sets}
-use Rattle.mesh.specs.Rings.{nodeSet}
-use Rattle.layout.specs.Tables.{startsOf, ringRow}
-use Rattle.node_sets.specs.Sets.{setsFrom}
-use Rattle.node_sets.proofs.Putting.{same-tables, keyed-still, below-same, joined, left-step, left-count}
+use lib.ListN.{length-set}
+use Rattle.node_sets.proofs.Remaining.{Left, left-all, left-keyed, left-start, left-next, done-count, done-most, done-put}
 use Rattle.node_sets.proofs.put_sets.Statement.{statement}
 use Rattle.node_sets.proofs.put_sets.Tie as tie
 
 abbrev Inv-loop : tie.InvT-loop
-Inv-loop work₀ l p faces k₀ g₀ work k g =
-    (g ≤ faces) × (length work ≡ length work₀) × (take (l .at .starts) work ≡ take (l .at .starts) work₀) × (k ≤ getD (take (l .at .bows) work₀) (l .rows + g) 0)
-    × (k + length (joined (setsFrom l (take (l .at .bows) work₀) g (l .at .faces - g))) ≡ length (joined (setsFrom l (take (l .at .bows) work₀) 0 (l .at .faces))))
-    × (sets (sets work (l .at .starts + g) (startsOf k (setsFrom l (take (l .at .bows) work₀) g (l .at .faces - g)))) (l .at .sets + k) (joined (setsFrom l (take (l .at .bows) work₀) g (l .at .faces - g)))
-    ≡ sets (sets work₀ (l .at .starts) (startsOf 0 (setsFrom l (take (l .at .bows) work₀) 0 (l .at .faces)))) (l .at .sets) (joined (setsFrom l (take (l .at .bows) work₀) 0 (l .at .faces))))
+Inv-loop work₀ l p faces k₀ g₀ work k g = (g ≤ faces) × Left l work₀ g k work
 
 abbrev μ-loop : tie.MeasureT-loop
 μ-loop work₀ l p faces k₀ g₀ work k g = faces - g
@@ -26,29 +17,17 @@ abbrev μ-loop : tie.MeasureT-loop
 loop-holds : tie.Need-loop-holds Inv-loop μ-loop
 loop-holds c =
     let a = c .before .before .args in
-    let S = setsFrom (a .l) (take (a .l .at .bows) (a .work .now)) 0 in
-    let n : a .l .at .faces - 0 ≡ a .l .at .faces = omega arith in
-    let o : a .l .at .starts + 0 ≡ a .l .at .starts = omega arith in
-    let p : a .l .at .sets + 0 ≡ a .l .at .sets = omega arith in
-    (
-      omega arith,
-      refl,
-      refl,
-      omega arith,
-      ?,
-      ?,
-    )
+    (omega arith, left-all (a .l) (a .work .now))
 
 put-set-requires : tie.Need-put-set-requires Inv-loop μ-loop
 put-set-requires c κs =
     let s = c .before .before .before .before .before in
     let a = s .args in
     let at = c .before .before .loop in
-    let e = same-tables (a .l) (a .work .now) (s .pre) (at .work) (at .inv .2) in
     (
-      keyed-still (a .l) (a .work .now) (s .pre) (at .work) (at .inv .1) (at .inv .2),
+      left-keyed (a .l) (a .work .now) (at .work) (at .g) (at .k) (s .pre) (at .inv .1),
       c .before .loop-test .taken,
-      omega (arith, at .inv .3, ap (λ (t : List ℕ). getD t (a .l .rows + at .g) 0) e),
+      left-start (a .l) (a .work .now) (at .work) (at .g) (at .k) (s .pre) (at .inv .1),
     )
 
 add-g : tie.Need-add-g Inv-loop μ-loop
@@ -62,18 +41,22 @@ loop-again c =
     let s = c .before .before .before .before .before .before .before .before in
     let a = s .args in
     let at = c .before .before .before .before .before .loop in
-    let t = take (a .l .at .bows) (a .work .now) in
-    let t' = take (a .l .at .bows) (at .work) in
     let put = c .before .before .put-set in
-    let same = same-tables (a .l) (a .work .now) (s .pre) (at .work) (at .inv .2) in
-    let f = keyed-still (a .l) (a .work .now) (s .pre) (at .work) (at .inv .1) (at .inv .2) in
-    ?
+    (
+      omega (arith, c .before .before .before .before .loop-test .taken),
+      left-next (a .l) (a .work .now) (at .work) (at .g) (at .k) (s .pre) (at .inv .1) (put .result) _ (c .before .before .before .before .loop-test .taken) (put .kept .0) (put .ensures .0) (put .ensures .1) (put .ensures .2),
+    )
 
 add-end : tie.Need-add-end Inv-loop μ-loop
 add-end c = search needs
 
 narrow-requires : tie.Need-narrow-requires Inv-loop μ-loop
-narrow-requires c κs = search needs
+narrow-requires c κs =
+    let s = c .before .before .before .before .before in
+    let a = s .args in
+    let at = c .before .before .loop in
+    let e : at .g ≡ a .l .at .faces = omega (arith, c .before .loop-test .left, at .inv .0) in
+    omega (arith, s .pre .small, done-most (a .l) (a .work .now) (at .work) (at .k) (s .pre) (subst (λ (g : ℕ). Left (a .l) (a .work .now) g (at .k) (at .work)) e (at .inv .1)))
 
 mul-work : tie.Need-mul-work Inv-loop μ-loop
 mul-work c = search needs
@@ -85,10 +68,20 @@ same-length : tie.Need-same-length Inv-loop μ-loop
 same-length c =
     let a = c .before .before .before .before .before .before .args in
     let at = c .before .before .before .loop in
-    length-set (at .work) (a .l .at .starts + a .l .at .faces) (c .narrow .result) ∙ at .inv .1
+    length-set (at .work) (a .l .at .starts + a .l .at .faces) (c .narrow .result) ∙ at .inv .1 .long
 
 returns : tie.Need-returns Inv-loop μ-loop
-returns c = ?
+returns c =
+    let s = c .before .before .before .before .before .before in
+    let a = s .args in
+    let at = c .before .before .before .loop in
+    let e : at .g ≡ a .l .at .faces = omega (arith, c .before .before .loop-test .left, at .inv .0) in
+    let i = subst (λ (g : ℕ). Left (a .l) (a .work .now) g (at .k) (at .work)) e (at .inv .1) in
+    (
+      done-count (a .l) (a .work .now) (at .work) (at .k) (s .pre) i,
+      done-most (a .l) (a .work .now) (at .work) (at .k) (s .pre) i,
+      done-put (a .l) (a .work .now) (at .work) (at .k) (s .pre) i (c .narrow .result) (c .narrow .ensures),
+    )
 
 pub put-sets-spec : {M : Type 1} → statement M
 put-sets-spec =
