@@ -7,14 +7,14 @@ use native.Mathlib.Nat.{zero-add}
 use native.Mathlib.Numerals.{add-one}
 use native.Mathlib.Omega.{arith}
 use lib.Ieee.{Float}
-use lib.ListN.{length, getD, set, take, length-map, List·getD-map}
+use lib.ListN.{set, take}
 use lib.Seq.{sets}
 use Rattle.laws.specs.Lists.{any, upFrom}
-use Rattle.laws.proofs.ListLaws.{length-upFrom, getD-upFrom, getD-any}
-use Rattle.laws.proofs.Stores.{sets-more}
+use Rattle.laws.proofs.ListLaws.{length-upFrom, getD-upFrom}
 use Rattle.layout.specs.declared.Layout.{Layout}
 use Rattle.layout.specs.Tables.{firstOf}
 use Rattle.layout.specs.ByCell.{ringBow, cellBow}
+use Rattle.bow_cells.proofs.Welded.{map-more}
 
 module _ (p : ℕ → Bool) (e g : ℕ) where
   -- one number more is tried
@@ -45,7 +45,4 @@ whole c tol l t i g e a b = ap₂ (λ (x y : ℕ). any (ringBow c tol l t) (upFr
 pub mark-more : (f : ℕ → ℕ) (w₀ w : List ℕ) (o n c v : ℕ) → w ≡ sets w₀ o (take c (map f (upFrom 0 n))) → c < n → v ≡ f c
     → set w (o + c) v ≡ sets w₀ o (take (c + 1) (map f (upFrom 0 n)))
 mark-more f w₀ w o n c v e h q =
-    let ys = map f (upFrom 0 n) in
-    let long : c < length ys = omega (arith, length-map (upFrom 0 n) f, length-upFrom 0 n) in
-    let value : v ≡ getD ys c 0 = q ∙ ap f (sym (getD-upFrom 0 n c 0 h ∙ zero-add c)) ∙ sym (List·getD-map f (upFrom 0 n) c 0) ∙ getD-any ys c (f 0) 0 long in
-    ap₂ (λ (l : List ℕ) (x : ℕ). set l (o + c) x) e value ∙ sets-more w₀ o ys c 0 long
+    map-more f w₀ w (upFrom 0 n) o c v e (omega (arith, length-upFrom 0 n)) (q ∙ ap f (sym (getD-upFrom 0 n c 0 h ∙ zero-add c)))

@@ -1,13 +1,13 @@
 -- Keys: a ring sorted where it was copied to, and the keys of all faces one after the other.
 use Prim.Native.Nat.{ℕ, zero, suc, _+_, _-_, _≤_, _<_}
-use mathlib.Core.Path.{_≡_, refl, sym, ap, ap₂, _∙_}
+use mathlib.Core.Path.{_≡_, sym, ap, ap₂, _∙_}
 use mathlib.Core.List.{List, [], _∷_, _++_, append-nil}
 use native.Mathlib.Nat.{zero-add}
 use native.Mathlib.Numerals.{add-one}
 use native.Mathlib.Omega.{arith}
 use lib.Dec.{leb}
-use lib.ListN.{length, getD, take, drop, length-append}
-use lib.Seq.{sets, length-sets, take-at, drop-at}
+use lib.ListN.{length, getD, take, length-append}
+use lib.Seq.{sets, take-at, drop-at}
 use Rattle.laws.specs.Lists.{each, sort, upFrom}
 use Rattle.laws.specs.Merging.{region}
 use Rattle.laws.proofs.ListLaws.{each-append, upFrom-snoc}

@@ -1,7 +1,7 @@
 -- Node sets: read off the keys, and put one after the other with their starts.
 use Prim.Native.Nat.{ℕ, suc, _+_, _-_, _≤_, _<_}
 use mathlib.Core.Path.{_≡_, refl, sym, ap, ap₂, _∙_, subst}
-use mathlib.Core.List.{List, [], _∷_, _++_, map}
+use mathlib.Core.List.{List, [], _∷_}
 use native.Mathlib.Numerals.{add-one}
 use native.Mathlib.Omega.{arith}
 use lib.Dec.{leb}
@@ -44,10 +44,10 @@ module _ (l : Layout) (w : List ℕ) (f : Keyed l w) where
         ends = omega (arith, f .ends);
         small = f .small;
         keyed =
-          sym (region-take (l .keys) (l .total) (l .at .starts) v (f .starts-at))
-          ∙ ap (region (l .keys) (l .total)) e
-          ∙ region-take (l .keys) (l .total) (l .at .starts) w (f .starts-at)
-          ∙ f .keyed ∙ ap (λ (r : List ℕ). keysOf l r (l .at .faces)) (sym same);
+            sym (region-take (l .keys) (l .total) (l .at .starts) v (f .starts-at))
+            ∙ ap (region (l .keys) (l .total)) e
+            ∙ region-take (l .keys) (l .total) (l .at .starts) w (f .starts-at)
+            ∙ f .keyed ∙ ap (λ (r : List ℕ). keysOf l r (l .at .faces)) (sym same);
       }
 
   -- the bounds of key g

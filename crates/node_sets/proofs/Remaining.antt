@@ -41,8 +41,8 @@ left-all l w =
       start = omega arith;
       count = omega (arith, ap (λ (S : List (List ℕ)). length (joined S)) e);
       put =
-        ap₂ (λ (i j : ℕ). sets (sets w i (startsOf 0 (remaining l w 0))) j (joined (remaining l w 0))) o p
-        ∙ ap (λ (S : List (List ℕ)). sets (sets w (l .at .starts) (startsOf 0 S)) (l .at .sets) (joined S)) e;
+          ap₂ (λ (i j : ℕ). sets (sets w i (startsOf 0 (remaining l w 0))) j (joined (remaining l w 0))) o p
+          ∙ ap (λ (S : List (List ℕ)). sets (sets w (l .at .starts) (startsOf 0 S)) (l .at .sets) (joined S)) e;
     }
 
 module _ (l : Layout) (w v : List ℕ) (g k : ℕ) (f : Keyed l w) (i : Left l w g k v) where
@@ -82,8 +82,8 @@ module _ (l : Layout) (w v : List ℕ) (g k : ℕ) (f : Keyed l w) (i : Left l w
           start = omega (arith, most, ap (λ (x : List ℕ). getD x (l .rows + (g + 1)) 0) left-tables);
           count = omega (arith, is-count, left-count l t v (l .at .starts) (l .at .sets) (l .at .faces) g k h (f .sets-at), i .count);
           put =
-            ap₂ (λ (x : List ℕ) (n : ℕ). sets (sets x (l .at .starts + (g + 1)) (startsOf n S)) (l .at .sets + n) (joined S)) is-put is-count
-            ∙ left-step l t v (l .at .starts) (l .at .sets) (l .at .faces) g k h (f .sets-at) ∙ i .put;
+              ap₂ (λ (x : List ℕ) (n : ℕ). sets (sets x (l .at .starts + (g + 1)) (startsOf n S)) (l .at .sets + n) (joined S)) is-put is-count
+              ∙ left-step l t v (l .at .starts) (l .at .sets) (l .at .faces) g k h (f .sets-at) ∙ i .put;
         }
 
 -- after the last face

@@ -1,5 +1,5 @@
 -- `bow_cells::cell_meets` meets its contract. The invariant: a ring that meets itself is among those left if there is one at all.
-use Prim.Native.Nat.{_+_, _-_, _≤_}
+use Prim.Native.Nat.{_-_, _≤_}
 use mathlib.Core.Path.{_≡_, sym, _∙_}
 use native.Mathlib.Omega.{arith}
 use borrow.Author.Needs.{needs}

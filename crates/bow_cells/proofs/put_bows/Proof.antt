@@ -1,5 +1,5 @@
 -- `bow_cells::put_bows` meets its contract: as many marks as turns are there, and the tables below them are as before.
-use Prim.Native.Nat.{ℕ, _+_, _-_, _≤_, _<_}
+use Prim.Native.Nat.{ℕ, _+_, _-_, _≤_}
 use mathlib.Core.Path.{_≡_, refl, sym, ap, _∙_, subst}
 use mathlib.Core.List.{List, map}
 use native.Mathlib.Omega.{arith}
@@ -55,8 +55,7 @@ loop-again c =
     let a = s .args in
     let at = c .before .before .before .before .loop in
     let f : ℕ → ℕ = (λ (i : ℕ). bit (cellBow (a .coords .now) (a .tol) (a .l) (take (a .l .at .bows) (a .work .now)) i)) in
-    let value = c .mark .ensures ∙ ap bit (c .before .cell-meets .ensures ∙ ap (λ (t : List ℕ). cellBow (a .coords .now) (a .tol) (a .l) t (at .c)) (at .inv .2)) in
-    (
+    let value = c .mark .ensures ∙ ap bit (c .before .cell-meets .ensures ∙ ap (λ (t : List ℕ). cellBow (a .coords .now) (a .tol) (a .l) t (at .c)) (at .inv .2)) in (
       omega (arith, c .before .before .before .loop-test .taken),
       simp length-set (at .inv .1),
       take-set-le (a .l .at .bows) (at .work) (a .l .at .bows + at .c) (c .mark .result) (omega arith) ∙ at .inv .2,

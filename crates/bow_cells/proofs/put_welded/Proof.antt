@@ -1,15 +1,16 @@
 -- `bow_cells::put_welded` meets its contract: as many words as turns are there.
-use Prim.Native.Nat.{ℕ, _+_, _-_, _≤_, _<_}
-use mathlib.Core.Path.{_≡_, refl, ap, _∙_}
+use Prim.Native.Nat.{ℕ, _+_, _-_, _≤_}
+use mathlib.Core.Path.{_≡_, refl, sym, ap, _∙_}
 use mathlib.Core.List.{map}
+use native.Mathlib.Nat.{zero-add}
 use native.Mathlib.Omega.{arith}
 use borrow.Author.Needs.{needs}
-use lib.ListN.{length, getD, take, length-set, length-map}
+use lib.ListN.{length, getD, set, take, length-set, length-map}
 use lib.Seq.{sets, take-all}
 use Rattle.laws.specs.Merging.{region}
 use Rattle.laws.proofs.Bounds.{below-at}
 use Rattle.snap.specs.Weld.{weldedBy}
-use Rattle.bow_cells.proofs.Welded.{number-read, through-more}
+use Rattle.bow_cells.proofs.Welded.{number-read, map-more}
 use Rattle.bow_cells.proofs.put_welded.Statement.{statement}
 use Rattle.bow_cells.proofs.put_welded.Tie as tie
 
@@ -69,7 +70,9 @@ loop-again c =
     let i<n = c .before .before .before .loop-test .taken in
     let k = below-at (a .n) (a .words .now) (l .i) (s .pre .1) i<n in
     let value = ap (λ (j : ℕ). getD (a .work .now) (a .o + j) 0) (c .before .wide .ensures) ∙ number-read (a .work .now) (a .o) (a .n) (getD (a .words .now) (l .i) 0) (s .pre .2) k in
-    (omega arith, through-more (weldedBy (region (a .o) (a .n) (a .work .now))) (a .out .now) (l .out) (a .words .now) (l .i) _ (l .inv .1) i<n value, simp length-set (l .inv .2))
+    let v = getD (a .work .now) (a .o + c .before .wide .result) 0 in
+    let more = map-more (weldedBy (region (a .o) (a .n) (a .work .now))) (a .out .now) (l .out) (a .words .now) 0 (l .i) v (l .inv .1) i<n value in
+    (omega arith, ap (λ (k : ℕ). set (l .out) k v) (sym (zero-add (l .i))) ∙ more, simp length-set (l .inv .2))
 
 same-length : tie.Need-same-length Inv-loop μ-loop
 same-length c = c .before .loop .inv .2

@@ -45,14 +45,13 @@ loop-again c =
     let t = take (a .l .at .bows) (a .work .now) in
     let put = c .before .before .put-key .ensures in
     let o = a .l .keys + getD (take (a .l .at .bows) (at .work)) (a .l .rows + at .g) 0 in
-    let key = sort leb (ringRow (a .l) (take (a .l .at .bows) (at .work)) (at .g)) in
-    (
+    let key = sort leb (ringRow (a .l) (take (a .l .at .bows) (at .work)) (at .g)) in (
       omega (arith, c .before .before .before .before .loop-test .taken),
       c .before .before .put-key .kept .0 ∙ at .inv .1,
       ap (take (a .l .at .bows)) put ∙ take-before (a .l .at .bows) (at .work) o key (omega (arith, s .pre .1)) ∙ at .inv .2,
       put
-      ∙ ap₂ (λ (w r : List ℕ). sets w (a .l .keys + getD r (a .l .rows + at .g) 0) (sort leb (ringRow (a .l) r (at .g)))) (at .inv .3) (at .inv .2)
-      ∙ keys-more (a .l) t (s .pre .0) (a .work .now) (a .l .keys) (at .g) (c .before .before .before .before .loop-test .taken),
+          ∙ ap₂ (λ (w r : List ℕ). sets w (a .l .keys + getD r (a .l .rows + at .g) 0) (sort leb (ringRow (a .l) r (at .g)))) (at .inv .3) (at .inv .2)
+          ∙ keys-more (a .l) t (s .pre .0) (a .work .now) (a .l .keys) (at .g) (c .before .before .before .before .loop-test .taken),
     )
 
 same-length : tie.Need-same-length Inv-loop μ-loop

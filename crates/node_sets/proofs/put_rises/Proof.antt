@@ -85,8 +85,7 @@ loop-again-2 c =
     let is : v ≡ getD R (at .i) 0 = sym (getD-region (a .a) (a .n) (at .work) (at .i) 0 (c .before .before .loop-test .taken)) ∙ ap (λ (r : List ℕ). getD r (at .i) 0) (at .inv .3) in
     let in-R : at .i < length R = omega (arith, c .before .before .loop-test .taken) in
     let more = rises-more R (at .i) (at .last) v in-R is (c .if1 .left) in
-    let next : a .s + (at .k + 1) ≡ suc (a .s + at .k) = omega arith in
-    (
+    let next : a .s + (at .k + 1) ≡ suc (a .s + at .k) = omega arith in (
       omega (arith, c .before .before .loop-test .taken),
       omega (arith, at .inv .1),
       simp length-set (at .inv .2),

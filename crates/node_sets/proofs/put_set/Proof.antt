@@ -1,6 +1,6 @@
 -- `node_sets::put_set` meets its contract: the key of the face, without its repeats, is its node set.
 use Prim.Native.Nat.{ℕ, _+_}
-use mathlib.Core.Path.{_≡_, ap, ap₂, _∙_}
+use mathlib.Core.Path.{ap, ap₂, _∙_}
 use mathlib.Core.List.{List}
 use native.Mathlib.Omega.{arith}
 use borrow.Author.Needs.{needs}
@@ -48,8 +48,7 @@ put-unique-requires c κs =
     let s = c .before .before .before .before .before .before .before .before .before .before .before in
     let a = s .args in
     let b = bounds (a .l) (a .work .now) (s .pre .0) (a .g) (c .before .before .before .before .before .before .before .row .result) (c .before .before .before .before .before .row2 .result) (s .pre .1) (c .before .before .before .before .before .before .before .row .ensures .0) (c .before .before .before .before .before .row2 .ensures .0) in
-    let f = s .pre .0 in
-    (
+    let f = s .pre .0 in (
       omega (arith, b, f .starts-at, f .sets-at),
       omega (arith, b, f .ends, s .pre .2, c .before .before .before .before .before .before .before .row .ensures .0, length-set (a .work .now) (a .l .at .starts + a .g) (c .before .narrow .result)),
     )
@@ -69,8 +68,7 @@ returns c =
     let b = bounds (a .l) (a .work .now) (s .pre .0) (a .g) (c .before .before .before .before .before .before .before .before .before .before .row .result) (c .before .before .before .before .before .before .before .before .row2 .result) (s .pre .1) (c .before .before .before .before .before .before .before .before .before .before .row .ensures .0) (c .before .before .before .before .before .before .before .before .row2 .ensures .0) in
     let v = c .before .before .before .before .narrow .result in
     let is = set-is (a .l) (a .work .now) (s .pre .0) (a .g) (c .before .before .before .before .before .before .before .before .before .before .row .result) (c .before .before .before .before .before .before .before .before .row2 .result) (s .pre .1) (c .before .before .before .before .before .before .before .before .before .before .row .ensures .0) (c .before .before .before .before .before .before .before .before .row2 .ensures .0) v in
-    let e = c .before .before .put-unique .ensures in
-    (
+    let e = c .before .before .put-unique .ensures in (
       ap (λ (n : ℕ). a .k + n) (e .0 ∙ ap length is),
       omega (arith, b, e .1, s .pre .2, c .before .before .before .before .before .before .before .before .before .before .row .ensures .0, c .before .before .before .before .before .before .before .before .row2 .ensures .0),
       e .2 ∙ ap₂ (λ (x : ℕ) (ys : List ℕ). sets (set (a .work .now) (a .l .at .starts + a .g) x) (a .l .at .sets + a .k) ys) (c .before .before .before .before .narrow .ensures) is,

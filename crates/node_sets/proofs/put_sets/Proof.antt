@@ -23,8 +23,7 @@ put-set-requires : tie.Need-put-set-requires Inv-loop μ-loop
 put-set-requires c κs =
     let s = c .before .before .before .before .before in
     let a = s .args in
-    let at = c .before .before .loop in
-    (
+    let at = c .before .before .loop in (
       left-keyed (a .l) (a .work .now) (at .work) (at .g) (at .k) (s .pre) (at .inv .1),
       c .before .loop-test .taken,
       left-start (a .l) (a .work .now) (at .work) (at .g) (at .k) (s .pre) (at .inv .1),
@@ -41,8 +40,7 @@ loop-again c =
     let s = c .before .before .before .before .before .before .before .before in
     let a = s .args in
     let at = c .before .before .before .before .before .loop in
-    let put = c .before .before .put-set in
-    (
+    let put = c .before .before .put-set in (
       omega (arith, c .before .before .before .before .loop-test .taken),
       left-next (a .l) (a .work .now) (at .work) (at .g) (at .k) (s .pre) (at .inv .1) (put .result) _ (c .before .before .before .before .loop-test .taken) (put .kept .0) (put .ensures .0) (put .ensures .1) (put .ensures .2),
     )
@@ -76,8 +74,7 @@ returns c =
     let a = s .args in
     let at = c .before .before .before .loop in
     let e : at .g ≡ a .l .at .faces = omega (arith, c .before .before .loop-test .left, at .inv .0) in
-    let i = subst (λ (g : ℕ). Left (a .l) (a .work .now) g (at .k) (at .work)) e (at .inv .1) in
-    (
+    let i = subst (λ (g : ℕ). Left (a .l) (a .work .now) g (at .k) (at .work)) e (at .inv .1) in (
       done-count (a .l) (a .work .now) (at .work) (at .k) (s .pre) i,
       done-most (a .l) (a .work .now) (at .work) (at .k) (s .pre) i,
       done-put (a .l) (a .work .now) (at .work) (at .k) (s .pre) i (c .narrow .result) (c .narrow .ensures),

@@ -1,5 +1,5 @@
 -- `node_sets::put_unique` meets its contract: the first word stays, and of the others those that rise.
-use Prim.Native.Nat.{ℕ, _+_, _≤_, _<_}
+use Prim.Native.Nat.{ℕ, _<_}
 use mathlib.Core.Path.{_≡_, sym, ap, _∙_}
 use mathlib.Core.List.{List, []}
 use native.Mathlib.Omega.{arith}
@@ -60,8 +60,7 @@ returns-2 c =
     let s = c .before .before .before .before .before .before .before in
     let a = s .args in
     let some : 0 < a .n = omega (arith, c .before .before .before .before .before .if1 .left) in
-    let e = c .before .before .put-rises .ensures in
-    (
+    let e = c .before .before .put-rises .ensures in (
       all-count (a .work .now) (a .a) (a .s) (a .n) some (s .pre .0) (s .pre .1) _ (e .0),
       omega (arith, e .1),
       all-put (a .work .now) (a .a) (a .s) (a .n) some (s .pre .0) (s .pre .1) _ (e .2),
