@@ -18,6 +18,7 @@ use Rattle.layout.specs.Tables.{startsOf, ringRow, Ringed}
 use Rattle.node_sets.specs.Unique.{unique}
 use Rattle.node_sets.specs.Sets.{keysOf, setsFrom, Keyed}
 use Rattle.node_sets.proofs.Unique.{unique-sort}
+use Rattle.node_sets.proofs.Reading.{Ring, rows-rise, rows-within}
 use Rattle.node_sets.proofs.Keys.{key-at}
 
 -- ---- the tables
@@ -50,19 +51,15 @@ module _ (l : Layout) (w : List ℕ) (f : Keyed l w) where
             ∙ f .keyed ∙ ap (λ (r : List ℕ). keysOf l r (l .at .faces)) (sym same);
       }
 
-  -- the bounds of key g
-  module _ (g s e : ℕ) (h : g < l .at .faces) (is-s : s ≡ getD t (l .rows + g) 0) (is-e : e ≡ getD t (l .rows + (g + 1)) 0) where
-    pub bounds : (s ≤ e) × (e ≤ l .total)
-    bounds = (omega (arith, f .ringed .rising g h), omega (arith, f .ringed .within (g + 1) (omega arith)))
-
+  module _ {g s e : ℕ} (p : Ring l w g s e) where
     -- a word among the starts leaves the key
-    pub key-is : (k : ℕ) → region (l .keys + s) (e - s) (set w (l .at .starts + g) k) ≡ sort leb (ringRow l t g)
+    key-is : (k : ℕ) → region (l .keys + s) (e - s) (set w (l .at .starts + g) k) ≡ sort leb (ringRow l t g)
     key-is k =
-        region-set-after (l .keys + s) (e - s) w (l .at .starts + g) k (omega (arith, bounds, f .starts-at))
-        ∙ sym (region-region s (e - s) (l .keys) (l .total) w (omega (arith, bounds)))
+        region-set-after (l .keys + s) (e - s) w (l .at .starts + g) k (omega (arith, rows-rise p, rows-within p, f .starts-at))
+        ∙ sym (region-region s (e - s) (l .keys) (l .total) w (omega (arith, rows-rise p, rows-within p)))
         ∙ ap (region s (e - s)) (f .keyed)
-        ∙ ap₂ (λ (a b : ℕ). region a (b - a) (keysOf l t (l .at .faces))) is-s is-e
-        ∙ key-at l t (f .ringed) g h
+        ∙ ap₂ (λ (a b : ℕ). region a (b - a) (keysOf l t (l .at .faces))) (p .from) (p .to)
+        ∙ key-at l t (f .ringed) g (p .face)
 
     -- without its repeats it is the node set
     pub set-is : (k : ℕ) → unique leb (region (l .keys + s) (e - s) (set w (l .at .starts + g) k)) ≡ nodeSet (ringRow l t g)

@@ -19,19 +19,30 @@ module _ (l : Layout) (w : List ℕ) (f : Ringed l (take (l .at .bows) w)) where
   pub word-is : (i : ℕ) → i < l .at .bows → getD w i 0 ≡ getD (take (l .at .bows) w) i 0
   word-is i h = sym (getD-take (l .at .bows) w i 0 h)
 
-  -- the bounds of ring g
-  module _ (g s e : ℕ) (h : g < l .at .faces) (is-s : s ≡ getD (take (l .at .bows) w) (l .rows + g) 0) (is-e : e ≡ getD (take (l .at .bows) w) (l .rows + (g + 1)) 0) where
-    -- they rise
-    pub rows-rise : s ≤ e
-    rows-rise = omega (arith, f .rising g h)
+-- ring g of the tables in w starts at s and ends at e, counted in words
+pub record Ring (l : Layout) (w : List ℕ) (g s e : ℕ) : Type 0 where
+  pub ringed : Ringed l (take (l .at .bows) w)
+  pub face : g < l .at .faces
+  pub from : s ≡ getD (take (l .at .bows) w) (l .rows + g) 0
+  pub to : e ≡ getD (take (l .at .bows) w) (l .rows + (g + 1)) 0
 
-    -- what stands between them is the ring
-    pub ring-is : region (l .rings + s) (e - s) w ≡ ringRow l (take (l .at .bows) w) g
-    unfolding ringRow
-    ring-is =
-        sym (region-take (l .rings + s) (e - s) (l .at .bows) w (omega (arith, rows-rise, f .within (g + 1) (omega arith), f .rings-at)))
-        ∙ ap₂ (λ (a b : ℕ). region (l .rings + a) (b - a) (take (l .at .bows) w)) is-s is-e
+module _ {l : Layout} {w : List ℕ} {g s e : ℕ} (p : Ring l w g s e) where
+  -- the bounds rise, and end within all words
+  pub rows-rise : s ≤ e
+  rows-rise = omega (arith, p .ringed .rising g (p .face))
 
-    -- it is as long as they are apart
-    pub ring-long : length (ringRow l (take (l .at .bows) w) g) ≡ e - s
-    ring-long = ap length (sym ring-is) ∙ length-region (l .rings + s) (e - s) w (omega (arith, rows-rise, f .within (g + 1) (omega arith), f .rings-at, tables-in))
+  pub rows-within : e ≤ l .total
+  rows-within = omega (arith, p .ringed .within (g + 1) (omega arith))
+
+  -- what stands between them is the ring
+  pub ring-is : region (l .rings + s) (e - s) w ≡ ringRow l (take (l .at .bows) w) g
+  unfolding ringRow
+  ring-is =
+      sym (region-take (l .rings + s) (e - s) (l .at .bows) w (omega (arith, rows-rise, rows-within, p .ringed .rings-at)))
+      ∙ ap₂ (λ (a b : ℕ). region (l .rings + a) (b - a) (take (l .at .bows) w)) (p .from) (p .to)
+
+  -- it is as long as they are apart
+  pub ring-long : length (ringRow l (take (l .at .bows) w) g) ≡ e - s
+  ring-long =
+      ap length (sym ring-is)
+      ∙ length-region (l .rings + s) (e - s) w (omega (arith, rows-rise, rows-within, p .ringed .rings-at, tables-in l w (p .ringed)))

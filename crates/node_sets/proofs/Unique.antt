@@ -48,7 +48,7 @@ module _ {ℓ} {A : Type ℓ} (le : A → A → Bool) (T : Total le) where
 
 -- ---- word by word
 
--- a word that the one before reaches goes
+-- a word that is not above the one before is left out
 pub rises-same : (R : List ℕ) (i last v : ℕ) → i < length R → v ≡ getD R i 0 → v ≤ last → rises leb last (drop i R) ≡ rises leb v (drop (i + 1) R)
 rises-same R i last v h e k = let t : leb (getD R i 0) last ≡ true = le-leb (getD R i 0) last (omega arith) in rw (drop-cons R i 0 h, add-one i, e, t)
 

@@ -6,9 +6,16 @@ use native.Mathlib.Omega.{arith}
 use borrow.Author.Needs.{needs}
 use lib.ListN.{length, set, length-set}
 use lib.Seq.{sets}
-use Rattle.node_sets.proofs.Putting.{bounds, set-is}
+use Rattle.node_sets.proofs.Reading.{Ring, rows-rise, rows-within}
+use Rattle.node_sets.proofs.Putting.{set-is}
 use Rattle.node_sets.proofs.put_set.Statement.{statement}
 use Rattle.node_sets.proofs.put_set.Tie as tie
+
+-- where the key starts and ends
+ring : (c : tie.After-row2) → Ring (c .before .before .before .before .before .before .args .l) (c .before .before .before .before .before .before .args .work .now) (c .before .before .before .before .before .before .args .g) (c .before .before .row .result) (c .row2 .result)
+ring c =
+    let s = c .before .before .before .before .before .before in
+    record { ringed = s .pre .0 .ringed; face = s .pre .1; from = c .before .before .row .ensures .0; to = c .row2 .ensures .0 }
 
 row-requires : tie.Need-row-requires
 row-requires c κs = search needs
@@ -20,10 +27,7 @@ row-requires-2 : tie.Need-row-requires-2
 row-requires-2 c κs = search needs
 
 sub-n : tie.Need-sub-n
-sub-n c =
-    let s = c .before .before .before .before .before .before in
-    let a = s .args in
-    bounds (a .l) (a .work .now) (s .pre .0) (a .g) (c .before .before .row .result) (c .row2 .result) (s .pre .1) (c .before .before .row .ensures .0) (c .row2 .ensures .0) .0
+sub-n c = rows-rise (ring c)
 
 add-from : tie.Need-add-from
 add-from c = search needs
@@ -47,11 +51,10 @@ put-unique-requires : tie.Need-put-unique-requires
 put-unique-requires c κs =
     let s = c .before .before .before .before .before .before .before .before .before .before .before in
     let a = s .args in
-    let b = bounds (a .l) (a .work .now) (s .pre .0) (a .g) (c .before .before .before .before .before .before .before .row .result) (c .before .before .before .before .before .row2 .result) (s .pre .1) (c .before .before .before .before .before .before .before .row .ensures .0) (c .before .before .before .before .before .row2 .ensures .0) in
-    let f = s .pre .0 in (
-      omega (arith, b, f .starts-at, f .sets-at),
-      omega (arith, b, f .ends, s .pre .2, c .before .before .before .before .before .before .before .row .ensures .0, length-set (a .work .now) (a .l .at .starts + a .g) (c .before .narrow .result)),
-    )
+    let r = ring (c .before .before .before .before .before) in
+    let f = s .pre .0 in
+    let long = length-set (a .work .now) (a .l .at .starts + a .g) (c .before .narrow .result) in
+    (omega (arith, rows-rise r, rows-within r, f .starts-at, f .sets-at), omega (arith, rows-rise r, rows-within r, f .ends, s .pre .2, r .from, long))
 
 add-result : tie.Need-add-result
 add-result c = search needs
@@ -65,13 +68,13 @@ returns : tie.Need-returns
 returns c =
     let s = c .before .before .before .before .before .before .before .before .before .before .before .before .before .before in
     let a = s .args in
-    let b = bounds (a .l) (a .work .now) (s .pre .0) (a .g) (c .before .before .before .before .before .before .before .before .before .before .row .result) (c .before .before .before .before .before .before .before .before .row2 .result) (s .pre .1) (c .before .before .before .before .before .before .before .before .before .before .row .ensures .0) (c .before .before .before .before .before .before .before .before .row2 .ensures .0) in
-    let v = c .before .before .before .before .narrow .result in
-    let is = set-is (a .l) (a .work .now) (s .pre .0) (a .g) (c .before .before .before .before .before .before .before .before .before .before .row .result) (c .before .before .before .before .before .before .before .before .row2 .result) (s .pre .1) (c .before .before .before .before .before .before .before .before .before .before .row .ensures .0) (c .before .before .before .before .before .before .before .before .row2 .ensures .0) v in
+    let r = ring (c .before .before .before .before .before .before .before .before) in
+    let is = set-is (a .l) (a .work .now) (s .pre .0) r (c .before .before .before .before .narrow .result) in
     let e = c .before .before .put-unique .ensures in (
       ap (λ (n : ℕ). a .k + n) (e .0 ∙ ap length is),
-      omega (arith, b, e .1, s .pre .2, c .before .before .before .before .before .before .before .before .before .before .row .ensures .0, c .before .before .before .before .before .before .before .before .row2 .ensures .0),
-      e .2 ∙ ap₂ (λ (x : ℕ) (ys : List ℕ). sets (set (a .work .now) (a .l .at .starts + a .g) x) (a .l .at .sets + a .k) ys) (c .before .before .before .before .narrow .ensures) is,
+      omega (arith, rows-rise r, e .1, s .pre .2, r .from, r .to),
+      e .2
+          ∙ ap₂ (λ (x : ℕ) (ys : List ℕ). sets (set (a .work .now) (a .l .at .starts + a .g) x) (a .l .at .sets + a .k) ys) (c .before .before .before .before .narrow .ensures) is,
     )
 
 pub put-set-spec : {M : Type 1} → statement M
