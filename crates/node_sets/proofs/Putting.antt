@@ -5,7 +5,7 @@ use mathlib.Core.List.{List, [], _∷_}
 use native.Mathlib.Numerals.{add-one}
 use native.Mathlib.Omega.{arith}
 use lib.Dec.{leb}
-use lib.ListN.{length, getD, set, take, length-map, length-append}
+use lib.ListN.{length, set, take, length-map, length-append}
 use lib.Seq.{sets, take-take, take-set-le}
 use Rattle.laws.specs.Lists.{each, sort, upFrom}
 use Rattle.laws.specs.Merging.{region}

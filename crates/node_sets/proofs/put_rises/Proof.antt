@@ -53,7 +53,7 @@ loop-again c =
     let long : length R ≡ a .n = length-region (a .a) (a .n) (a .work .now) (omega (arith, s .pre)) in
     let is : v ≡ getD R (at .i) 0 = sym (getD-region (a .a) (a .n) (at .work) (at .i) 0 (c .before .before .loop-test .taken)) ∙ ap (λ (r : List ℕ). getD r (at .i) 0) (at .inv .3) in
     let in-R : at .i < length R = omega (arith, c .before .before .loop-test .taken) in
-    let same = rises-same R (at .i) (at .last) v in-R is (c .if1 .taken) in
+    let same = rises-same R (at .i) (at .last) v in-R is (omega (arith, c .if1 .taken)) in
     (omega (arith, c .before .before .loop-test .taken), omega (arith, at .inv .1), at .inv .2, at .inv .3, ap (λ (r : List ℕ). at .k + length r) (sym same) ∙ at .inv .4, ap (sets (at .work) (a .s + at .k)) (sym same) ∙ at .inv .5)
 
 add-work : tie.Need-add-work Inv-loop μ-loop
@@ -84,7 +84,7 @@ loop-again-2 c =
     let long : length R ≡ a .n = length-region (a .a) (a .n) (a .work .now) (omega (arith, s .pre)) in
     let is : v ≡ getD R (at .i) 0 = sym (getD-region (a .a) (a .n) (at .work) (at .i) 0 (c .before .before .loop-test .taken)) ∙ ap (λ (r : List ℕ). getD r (at .i) 0) (at .inv .3) in
     let in-R : at .i < length R = omega (arith, c .before .before .loop-test .taken) in
-    let more = rises-more R (at .i) (at .last) v in-R is (c .if1 .left) in
+    let more = rises-more R (at .i) (at .last) v in-R is (omega (arith, c .if1 .left)) in
     let next : a .s + (at .k + 1) ≡ suc (a .s + at .k) = omega arith in (
       omega (arith, c .before .before .loop-test .taken),
       omega (arith, at .inv .1),
