@@ -16,14 +16,15 @@ use Rattle.laws.proofs.Tests.{tested, split}
 use Rattle.laws.proofs.ListLaws.{each-append, upFrom-snoc}
 use Rattle.laws.proofs.Stores.{getD-region, length-region}
 use Rattle.findings.specs.Findings.{Finding}
+use Rattle.index.specs.Faces.{input}
 use Rattle.records.specs.Keeping.{Kept}
 use Rattle.records.proofs.Keeping.{kept-none, kept-then}
 use Rattle.layout.specs.declared.Layout.{Layout}
 use Rattle.layout.specs.Tables.{Spaced}
 use Rattle.layout.specs.ByCell.{plainRules}
 use Rattle.partially_shared.specs.declared.Range.{Range}
-use Rattle.partially_shared.specs.Hits.{Marked, Beside, toldBy, markTells, KeptAny, Clearing, Searching}
-use Rattle.partially_shared.proofs.Searched.{beside-then}
+use Rattle.partially_shared.specs.Hits.{Marked, Beside, toldBy, markTells, KeptAny, Cleared, Searching}
+use Rattle.partially_shared.proofs.Searched.{beside-less, beside-then, searching-on, input-on}
 
 -- ---- one cell
 
@@ -48,7 +49,13 @@ set-none w i e = sym (ap (set w i) (sym e) ∙ set-getD w i 0)
 
 -- ---- the range
 
--- a slice whose marks are cleared from a on, before b
+-- the same while it is done: the marks from b on are as before
+pub record Clearing (l : Layout) (w : List ℕ) (a b : ℕ) (v : List ℕ) : Type 0 where
+  pub beside : Beside (l .marks) l w v
+  pub cleared : (i : ℕ) → i < l .at .«cell_count» → a ≤ i → i < b → getD v (l .marks + i) 0 ≡ 0
+  pub same : (i : ℕ) → i < l .at .«cell_count» → b ≤ i → (getD v (l .marks + i) 0 ≡ getD w (l .marks + i) 0) × (getD v (l .others + i) 0 ≡ getD w (l .others + i) 0)
+  pub still : (i : ℕ) → i < l .at .«cell_count» → getD w (l .marks + i) 0 ≡ 0 → getD v (l .marks + i) 0 ≡ 0
+
 pub clearing-start : (l : Layout) (w : List ℕ) (a : ℕ) → Clearing l w a a w
 clearing-start l w a = record {
   beside = record { before = refl; behind = refl; long = refl };
@@ -87,7 +94,7 @@ clearing-next l w v a b sp low p = record {
     go i h k (inr q) j = let e : i ≡ b = omega (arith, q, j) in ap (λ (x : ℕ). getD (set v (l .marks + b) 0) (l .marks + x) 0) e ∙ own
 
 -- all marks are zero afterwards
-pub all-cleared : (l : Layout) (t w v : List ℕ) (hits : List (ℕ × ℕ)) (r : Range) → Spaced l (length w) → Marked l t hits w r → Clearing l w (r .lo) (r .hi) v → region (l .marks) (l .at .«cell_count») v ≡ replicate (l .at .«cell_count») 0
+pub all-cleared : (l : Layout) (t w v : List ℕ) (hits : List (ℕ × ℕ)) (r : Range) → Spaced l (length w) → Marked l t hits w r → Cleared l w (r .lo) (r .hi) v → region (l .marks) (l .at .«cell_count») v ≡ replicate (l .at .«cell_count») 0
 all-cleared l t w v hits r sp m p =
     ext-getD 0 (region (l .marks) (l .at .«cell_count») v) (replicate (l .at .«cell_count») 0) (long ∙ sym (length-replicate (l .at .«cell_count») 0))
     (λ i h. let k : i < l .at .«cell_count» = omega (arith, h, long) in getD-region (l .marks) (l .at .«cell_count») v i 0 k ∙ zero i k (tested (eqb (getD w (l .marks + i) 0) 0)) ∙ sym (getD-replicate (l .at .«cell_count») i 0 0 k))
@@ -113,3 +120,30 @@ keeps-next c room n k j h xs a b f g e le is p q tol =
     ap (λ (i : ℕ). each h (upFrom a i)) z ∙ ap (each h) (upFrom-snoc a (b - a)) ∙ each-append h (upFrom a (b - a)) ((a + (b - a)) ∷ [])
     ∙ ap (λ (i : ℕ). each h (upFrom a (b - a)) ++ (h i ++ [])) y ∙ ap (λ (l : List Finding). each h (upFrom a (b - a)) ++ l) (append-nil (h b) ∙ sym is) in
     subst (λ (l : List Finding). Kept (plainRules c tol) room n l f e j) (sym grows) (kept-then (plainRules c tol) room n (each h (upFrom a (b - a))) xs f g e k j (p tol) (q tol))
+
+-- the cells before b are told
+pub record Telling (c : List Float) (room n : ℕ) (l : Layout) (t w : List ℕ) (i a : ℕ) (f v g : List ℕ) (k b : ℕ) : Type 0 where
+  pub clearing : Clearing l w a b v
+  pub kept : KeptAny c room n (each (markTells l t w i) (upFrom a (b - a))) f g k
+  pub search : Searching l v
+  pub few : k ≤ n + (b - a)
+  pub from : a ≤ b
+  pub long : length g ≡ length f
+
+pub telling-next : (c : List Float) (room n : ℕ) (l : Layout) (w : List ℕ) (i a : ℕ) (f v g : List ℕ) (k b : ℕ) (u e : List ℕ) (j : ℕ) → Searching l w → b < l .at .«cell_count»
+    → Telling c room n l (input (l .at) w) w i a f v g k b → KeptAny c room k (markTells l (input (l .at) v) v i b) g e j → u ≡ set v (l .marks + b) 0 → j ≤ k + 1 → length e ≡ length g
+    → Telling c room n l (input (l .at) w) w i a f u e j (b + 1)
+telling-next c room n l w i a f v g k b u e j s low p q is few long =
+    let lower : l .at .found ≤ l .marks = omega (arith, s .spaced .marks-at) in
+    let clear : Clearing l w a (b + 1) u = subst (Clearing l w a (b + 1)) (sym is) (clearing-next l w v a b (s .spaced) low (p .clearing)) in
+    let same : markTells l (input (l .at) v) v i b ≡ markTells l (input (l .at) w) w i b =
+    ap (λ (t : List ℕ). markTells l t v i b) (input-on l w v s (beside-less (l .at .found) (l .marks) l w v lower (p .clearing .beside)))
+    ∙ tells-same l (input (l .at) w) w v i b (p .clearing .same b low (omega arith)) in
+    record {
+      clearing = clear;
+      kept = keeps-next c room n k j (markTells l (input (l .at) w) w i) (markTells l (input (l .at) v) v i b) a b f g e (p .from) same (p .kept) q;
+      search = searching-on l w u s (beside-less (l .at .found) (l .marks) l w u lower (clear .beside));
+      few = omega (arith, p .few, few, p .from);
+      from = omega (arith, p .from);
+      long = long ∙ p .long;
+    }

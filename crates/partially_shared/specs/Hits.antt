@@ -87,9 +87,8 @@ MarkFits l w b = getD w (l .marks + b) 0 ≢ 0 → (getD w (l .marks + b) 0 ≤ 
 abbrev pub MarksFit : Layout → List ℕ → Type 0
 MarksFit l w = (b : ℕ) → b < l .at .«cell_count» → MarkFits l w b
 
--- w became v: the marks of cells from a on, before b, are zero; those from b on are as before, and no other was set
-pub record Clearing (l : Layout) (w : List ℕ) (a b : ℕ) (v : List ℕ) : Type 0 where
+-- w became v: the marks of cells from a on, before b, are zero, and no other was set
+pub record Cleared (l : Layout) (w : List ℕ) (a b : ℕ) (v : List ℕ) : Type 0 where
   pub beside : Beside (l .marks) l w v
   pub cleared : (i : ℕ) → i < l .at .«cell_count» → a ≤ i → i < b → getD v (l .marks + i) 0 ≡ 0
-  pub same : (i : ℕ) → i < l .at .«cell_count» → b ≤ i → (getD v (l .marks + i) 0 ≡ getD w (l .marks + i) 0) × (getD v (l .others + i) 0 ≡ getD w (l .others + i) 0)
   pub still : (i : ℕ) → i < l .at .«cell_count» → getD w (l .marks + i) 0 ≡ 0 → getD v (l .marks + i) 0 ≡ 0

@@ -12,7 +12,7 @@ ghost use Rattle.seek.specs.Candidates.{candidates};
 ghost use Rattle.records.specs.Keeping.{Kept};
 ghost use Rattle.layout.specs.Tables.{Spaced, Standing, Still};
 ghost use Rattle.layout.specs.ByCell.{plainRules, partlyCell};
-ghost use Rattle.partially_shared.specs.Hits.{passing, faceHits, cellHits, Marked, MarkedMore, Higher, Searching, Beside, toldBy, markTells, KeptAny, MarkFits, MarksFit, Clearing};
+ghost use Rattle.partially_shared.specs.Hits.{passing, faceHits, cellHits, Marked, MarkedMore, Higher, Searching, Beside, toldBy, markTells, KeptAny, MarkFits, MarksFit, Cleared};
 
 // The cells from lo on, before hi.
 pub struct Range {
@@ -242,7 +242,7 @@ fn keep_range(
     requires { ⌜ (c < l .at .«cell_count») × (r .hi ≤ l .at .«cell_count») × (l .at .nodes ≡ nodeCount (now coords)) × MarksFit l (now work) ⌝ }
     requires { ⌜ (64 * room ≤ length (now findings)) × (n ≤ 2 ^ 56) ⌝ }
     ensures { λ k. ⌜ KeptAny (now (coords .entry)) room n (each (markTells l (input (l .at) (now (work .entry))) (now (work .entry)) c) (upFrom (r .lo) (r .hi - r .lo))) (now (findings .entry)) (now (findings .exit)) k ⌝ }
-    ensures { λ k. ⌜ Clearing l (now (work .entry)) (r .lo) (r .hi) (now (work .exit)) × (k ≤ n + 2 ^ 18) ⌝ }
+    ensures { λ k. ⌜ Cleared l (now (work .entry)) (r .lo) (r .hi) (now (work .exit)) × (k ≤ n + 2 ^ 18) ⌝ }
 {
     let hi = r.hi;
     let mut k = n;

@@ -1,49 +1,67 @@
+-- `partially_shared::keep_marked` meets its contract.
+use Prim.Native.Nat.{ℕ, _+_, _≤_}
+use mathlib.Core.List.{List, [], _∷_}
+use mathlib.Core.Path.{_≡_, refl, sym, ap, _∙_, subst}
+use native.Mathlib.Omega.{arith}
 use borrow.Author.Needs.{needs}
+use lib.Ieee.{Float}
+use Rattle.floats.specs.Floats.{zero64}
+use Rattle.findings.specs.Findings.{Finding}
+use Rattle.index.specs.Faces.{input}
+use Rattle.layout.specs.ByCell.{plainRules}
+use Rattle.records.specs.Keeping.{Kept}
+use Rattle.records.proofs.Keeping.{kept-none}
+use Rattle.partially_shared.proofs.Cleared.{tells-none, tells-one, set-none}
 use Rattle.partially_shared.proofs.keep_marked.Statement.{statement}
 use Rattle.partially_shared.proofs.keep_marked.Tie as tie
-use Rattle.partially_shared.proofs.keep_marked.Reads as reads
-use Rattle.partially_shared.proofs.keep_marked.Lts as lts
-use Rattle.partially_shared.proofs.keep_pair.Reads as keep-pair-reads
 
--- src/lib.rt:221:13
 add-m : tie.Need-add-m
 add-m c = search needs
 
--- src/lib.rt:222:8
 mul-if1 : tie.Need-mul-if1
 mul-if1 c = search needs
 
--- src/lib.rt:222:8
 slice-read-if1 : tie.Need-slice-read-if1
 slice-read-if1 c = search needs
 
--- src/lib.rt:223:9
 returns : tie.Need-returns
-returns c = ?
+returns c =
+    let b = c .before .before .before .before .before .before in
+    let a = b .args in
+    let w = a .work .now in
+    let none = tells-none (a .l) (input (a .l .at) w) w (a .c) (a .b) (c .if1 .taken) in
+    (λ tol. subst (λ (xs : List Finding). Kept (plainRules (a .coords .now) tol) (a .room) (a .n) xs (a .findings .now) (a .findings .now) (a .n)) (sym none) (kept-none (plainRules (a .coords .now) tol) (a .room) (a .n) (a .findings .now)),
+    (set-none w (a .l .marks + a .b) (c .if1 .taken), omega arith))
 
--- src/lib.rt:225:9
 keep-pair-requires : tie.Need-keep-pair-requires
-keep-pair-requires c κs = ?
+keep-pair-requires c κs =
+    let b = c .before .before .before .before .before .before .before .before in
+    let q = b .pre .1 .0 in
+    let h = c .before .before .if1 .left in
+    (b .pre .0, ((q .0, q .1, q .2, h, q .3 h .0, q .3 h .1), b .pre .1 .1))
 
--- src/lib.rt:226:5
 mul-work : tie.Need-mul-work
 mul-work c = search needs
 
--- src/lib.rt:226:5
 slice-write-work : tie.Need-slice-write-work
 slice-write-work c = search needs
 
--- src/lib.rt:205:1
 same-length : tie.Need-same-length
 same-length c = search needs
 
--- src/lib.rt:205:1
 same-length-2 : tie.Need-same-length-2
 same-length-2 c = search needs
 
--- src/lib.rt:205:1
 returns-2 : tie.Need-returns-2
-returns-2 c = ?
+returns-2 c =
+    let b = c .before .before .before .before .before .before .before .before .before .before .before in
+    let a = b .args in
+    let w = a .work .now in
+    let y = c .before .before .keep-pair in
+    let one = tells-one (a .l) (input (a .l .at) w) w (a .c) (a .b) (c .before .before .before .before .before .if1 .left) in
+    let k : y .result ≡ a .n + 1 = y .ensures zero64 .count in
+    (λ tol. subst (λ (xs : List Finding). Kept (plainRules (a .coords .now) tol) (a .room) (a .n) xs (a .findings .now) (y .last .1 .1 .1 .1 .1 .0) (y .result)) (sym one) (y .ensures tol),
+    (refl, omega (arith, k)))
 
 pub keep-marked-spec : {M : Type 1} → statement M
 keep-marked-spec =
