@@ -1,3 +1,4 @@
 -- What follows from the tables' standing.
 pub mod Reading
 pub mod Again
+pub mod Owning

@@ -4,3 +4,4 @@ pub mod Searched
 pub mod CellSearch
 pub mod Told
 pub mod Cleared
+pub mod Pairing
