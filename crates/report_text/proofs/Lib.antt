@@ -1,2 +1,3 @@
 -- What texts stored one behind the other make.
 pub mod Texts
+pub mod Reports
