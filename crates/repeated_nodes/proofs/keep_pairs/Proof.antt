@@ -78,7 +78,7 @@ loop-again c =
       omega (arith, o .loop .inv .0),
       omega (arith, call .ensures nan .count, o .loop .inv .1),
       search needs,
-      kept-next (a .coords .now) (a .room) (a .n) (o .loop .k) (call .result) (a .c) (a .at) (o .loop .i) (a .work .now) (a .findings .now) (o .loop .findings) (call .last .1 .1 .1 .1 .0) (o .loop .inv .3) (call .ensures)
+      kept-next (a .coords .now) (a .room) (a .n) (o .loop .k) (call .result) (a .c) (a .at) (o .loop .i) (a .work .now) (a .findings .now) (o .loop .findings) (call .last .1 .1 .1 .1 .0) (o .loop .inv .3) (call .ensures),
     )
 
 same-length : tie.Need-same-length Inv-loop μ-loop
