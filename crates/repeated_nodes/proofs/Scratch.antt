@@ -3,13 +3,13 @@ use Prim.Native.Nat.{ℕ, _+_, _*_, _≤_}
 use mathlib.Core.Path.{_≡_, sym, ap, _∙_, subst}
 use mathlib.Core.List.{List, map}
 use native.Mathlib.Omega.{arith}
-use lib.ListN.{length, take, replicate}
+use lib.ListN.{length, take}
 use lib.Seq.{take-take}
 use Rattle.laws.specs.Merging.{region, AllBelow}
 use Rattle.laws.proofs.Stores.{region-take}
 use Rattle.snap.specs.Weld.{weldedBy}
 use Rattle.findings.specs.Rules.{repeatsOf}
-use Rattle.pair_sort.specs.Pairs.{flat, pairsIn, pairsAt}
+use Rattle.pair_sort.specs.Pairs.{pairsIn, pairsAt}
 use Rattle.pair_sort.proofs.PairLaws.{pairs-flat, pairs-region}
 use Rattle.repeats.specs.declared.Regions.{Regions}
 use Rattle.repeats.specs.Marks.{nodesIn}

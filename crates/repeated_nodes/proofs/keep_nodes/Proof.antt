@@ -1,6 +1,6 @@
 -- `repeated_nodes::keep_nodes` meets its contract: the record has the finding's fields and centre.
 use borrow.Author.Needs.{needs}
-use mathlib.Core.Path.{_≡_, sym, ap₂, _∙_}
+use mathlib.Core.Path.{sym, ap₂, _∙_}
 use Rattle.geometry.specs.declared.Point.{Point}
 use Rattle.geometry.specs.Points.{midpointOf}
 use Rattle.findings.specs.Findings.{repeated}

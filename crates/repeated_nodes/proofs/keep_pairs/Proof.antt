@@ -1,7 +1,7 @@
 -- `repeated_nodes::keep_pairs` meets its contract. The invariant: the findings of the first i pairs are kept.
-use Prim.Native.Nat.{ℕ, _+_, _-_, _*_, _/_, _≤_, _<_}
+use Prim.Native.Nat.{_+_, _-_, _*_, _/_, _≤_}
 use borrow.Author.Needs.{needs}
-use lib.ListN.{length, getD}
+use lib.ListN.{length}
 use lib.Ieee.{nan}
 use mathlib.Core.List.{map}
 use mathlib.Core.Path.{_≡_, refl}

@@ -1,7 +1,7 @@
 -- `repeated_nodes::keep_repeated` meets its contract: the pairs listed are those of the cell, and each one's finding is kept.
 use Prim.Native.Nat.{ℕ, _*_}
 use borrow.Author.Needs.{needs}
-use mathlib.Core.Path.{_≡_, subst}
+use mathlib.Core.Path.{subst}
 use native.Mathlib.Omega.{arith}
 use Rattle.laws.specs.Merging.{region, AllBelow}
 use Rattle.repeated_nodes.proofs.Scratch.{ready, pairs-in, pairs-below, pairs-found, still-listed}

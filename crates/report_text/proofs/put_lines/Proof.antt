@@ -1,5 +1,5 @@
 -- `report_text::put_lines` meets its contract. The invariant: the lines of the first i records are stored.
-use Prim.Native.Nat.{ℕ, _+_, _-_, _*_, _≤_}
+use Prim.Native.Nat.{ℕ, _-_, _*_, _≤_}
 use borrow.Author.Needs.{needs}
 use lib.ListN.{length}
 use mathlib.Core.Path.{_≡_, refl, subst}
