@@ -1,2 +1,2 @@
--- Text stored into a slice.
+-- Text stored into a slice, and the records kept.
 pub mod Stored

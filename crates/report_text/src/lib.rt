@@ -1,11 +1,12 @@
 // The lines of a report, written into bytes. Each function answers the place behind what it wrote.
 ghost use mathlib.Core.Path.{_≡_};
 ghost use mathlib.Core.List.{[], _∷_, _++_};
-ghost use Prim.Native.Nat.{_+_, _≤_, _<_};
+ghost use Prim.Native.Nat.{_+_, _*_, _≤_, _<_};
 ghost use lib.ListN.{length};
+ghost use Rattle.laws.specs.Lists.{each};
 ghost use Rattle.records.specs.Read.{told};
-ghost use Rattle.report.specs.Text.{digitsTo, decimal, spaced, lineOf, totalLine, refusedLine, conform};
-ghost use Rattle.report_text.specs.Stored.{Stored};
+ghost use Rattle.report.specs.Text.{digitsTo, decimal, spaced, lineOf, totalLine, refusedLine, conform, reportText};
+ghost use Rattle.report_text.specs.Stored.{Stored, fieldsKept};
 
 // The digit of a number below ten.
 fn digit(n: u64) -> u8
@@ -118,4 +119,31 @@ pub fn put_conform(out: &mut [u8], at: usize) -> usize
     ensures { λ r. ⌜ Stored (now (out .entry)) at conform (now (out .exit)) r ⌝ }
 {
     put_text(out, at, b"CONFORM\n")
+}
+
+// The lines of the first `kept` records, from the start on.
+fn put_lines(out: &mut [u8], findings: &[u8], kept: usize) -> usize
+    requires { ⌜ (64 * kept ≤ length (now findings)) × (128 * kept ≤ length (now out)) ⌝ }
+    ensures { λ r. ⌜ Stored (now (out .entry)) 0 (each lineOf (fieldsKept (now (findings .entry)) kept)) (now (out .exit)) r × (r ≤ 128 * kept) ⌝ }
+{
+    let mut p = 0;
+    let mut i = 0;
+    while i < kept {
+        let f = records::fields_at(findings, 64 * i);
+        p = put_line(out, p, f);
+        i += 1;
+    }
+    p
+}
+
+// The text of a report: the lines of the records kept and the totals, or that there are no findings.
+pub fn put_report(out: &mut [u8], findings: &[u8], total: u64, kept: usize) -> usize
+    requires { ⌜ (64 * kept ≤ length (now findings)) × (128 * kept + 64 ≤ length (now out)) ⌝ }
+    ensures { λ r. ⌜ Stored (now (out .entry)) 0 (reportText (fieldsKept (now (findings .entry)) kept) total kept) (now (out .exit)) r × (r ≤ length (now (out .entry))) ⌝ }
+{
+    if total == 0 {
+        return put_conform(out, 0);
+    }
+    let p = put_lines(out, findings, kept);
+    put_total(out, p, total, kept as u64)
 }

@@ -1,0 +1,2 @@
+-- Findings kept, whatever the tolerance.
+pub mod Kept
