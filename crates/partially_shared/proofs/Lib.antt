@@ -5,3 +5,4 @@ pub mod CellSearch
 pub mod Told
 pub mod Cleared
 pub mod Pairing
+pub mod Whole

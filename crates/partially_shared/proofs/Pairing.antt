@@ -209,23 +209,25 @@ module _ (R : Rules) (l : Layout) (t : List ℕ) (F : Faced l t) where
             ∙ ap first (each-ext (λ f. ap (map (λ g. (f, g))) (each-nil (facesFrom b))) (facesFrom c) ∙ each-nil (facesFrom c))
             ∙ sym (ap (λ (x : Bool). onlyIf x (first meetNums)) e)
 
-    -- and those of the definition
-    pub pairs-b : pairCells R l t c b ≡ map (λ (h : ℕ × ℕ). pairFound c b (faceRow l t (h .0), faceRow l t (h .1))) (hitOf l t b (cellHits R l t c))
-    unfolding pairCells facesOfCell meeting
+    -- the faces of two numbers
+    abbrev both-rows : ℕ × ℕ → Face × Face
+    both-rows h = (faceRow l t (h .0), faceRow l t (h .1))
+
+    -- the face pairs that meet, as faces
+    rows : meeting R (map (faceRow l t) (facesFrom c)) (map (faceRow l t) (facesFrom b)) ≡ map both-rows meetNums
+    unfolding meeting faceRow
+    rows =
+        each-map (λ (f : Face). each (λ (g : Face). onlyIf (meets (R .spans) (f .ring) (g .ring)) ((f, g) ∷ [])) (map (faceRow l t) (facesFrom b))) (faceRow l t) (facesFrom c)
+        ∙ each-ext (λ f. each-map (λ (g : Face). onlyIf (meets (R .spans) (ringRow l t f) (g .ring)) ((faceRow l t f, g) ∷ [])) (faceRow l t) (facesFrom b)
+        ∙ keep-pairs (meetsAt f) (λ g. (faceRow l t f, faceRow l t g)) (facesFrom b) ∙ sym (map-map both-rows (λ g. (f, g)) (keep (meetsAt f) (facesFrom b)))) (facesFrom c)
+        ∙ sym (map-each both-rows (λ f. map (λ g. (f, g)) (keep (meetsAt f) (facesFrom b))) (facesFrom c))
+
+    -- the pairs of the definition are those that the search gives
+    pub pairs-b : pairCells R l t c b ≡ map (λ (h : ℕ × ℕ). pairFound c b (both-rows h)) (hitOf l t b (cellHits R l t c))
+    unfolding pairCells facesOfCell
     pairs-b =
         ap (λ (x : List (Face × Face)). onlyIf both (map (pairFound c b) (first x))) rows
         ∙ ap (λ (x : List (Face × Face)). onlyIf both (map (pairFound c b) x)) (first-map both-rows meetNums)
         ∙ ap (onlyIf both) (map-map (pairFound c b) both-rows (first meetNums))
         ∙ sym (map-onlyIf (λ (h : ℕ × ℕ). pairFound c b (both-rows h)) both (first meetNums))
         ∙ ap (map (λ (h : ℕ × ℕ). pairFound c b (both-rows h))) (sym hit-b)
-      where
-        both-rows : ℕ × ℕ → Face × Face
-        both-rows h = (faceRow l t (h .0), faceRow l t (h .1))
-
-        rows : meeting R (map (faceRow l t) (facesFrom c)) (map (faceRow l t) (facesFrom b)) ≡ map both-rows meetNums
-        unfolding meeting faceRow
-        rows =
-            each-map (λ (f : Face). each (λ (g : Face). onlyIf (meets (R .spans) (f .ring) (g .ring)) ((f, g) ∷ [])) (map (faceRow l t) (facesFrom b))) (faceRow l t) (facesFrom c)
-            ∙ each-ext (λ f. each-map (λ (g : Face). onlyIf (meets (R .spans) (ringRow l t f) (g .ring)) ((faceRow l t f, g) ∷ [])) (faceRow l t) (facesFrom b)
-            ∙ keep-pairs (meetsAt f) (λ g. (faceRow l t f, faceRow l t g)) (facesFrom b) ∙ sym (map-map both-rows (λ g. (f, g)) (keep (meetsAt f) (facesFrom b)))) (facesFrom c)
-            ∙ sym (map-each both-rows (λ f. map (λ g. (f, g)) (keep (meetsAt f) (facesFrom b))) (facesFrom c))
