@@ -1,0 +1,6 @@
+-- Laws on faces with the same key.
+pub mod Keys
+pub mod Members
+pub mod Nodes
+pub mod Counted
+pub mod Found
