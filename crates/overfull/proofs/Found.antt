@@ -3,27 +3,34 @@ use Prim.Native.Nat.{ℕ, zero, suc, _+_, _-_, _≤_, _<_}
 use mathlib.Core.Path.{_≡_, refl, sym, ap, ap₂, _∙_, subst}
 use mathlib.Core.Logic.{_⊎_, inl, inr, ⊎-elim}
 use mathlib.Core.Bool.{Bool, true, false, not, _||_}
-use mathlib.Core.List.{List, [], _∷_, _++_, map, map-append, append-assoc}
+use mathlib.Core.List.{List, [], _∷_, _++_, map, map-append, append-assoc, append-nil}
 use native.Mathlib.Omega.{arith}
 use native.Mathlib.Nat.{zero-add}
 use borrow.Author.Tests.{le-leb, lt-leb}
 use lib.Dec.{leb}
 use lib.ListN.{length, getD, take, drop, length-map}
 use lib.Seq.{take-at, drop-at}
-use Rattle.laws.specs.Lists.{onlyIf, any, keep, upFrom, elem}
+use lib.Ieee.{Float}
+use Rattle.laws.specs.Lists.{onlyIf, any, each, keep, upFrom, elem, sort, eql}
 use Rattle.laws.proofs.Tests.{tested, and-parts}
-use Rattle.laws.proofs.ListLaws.{any-map, keep-map, keep-append, keep-length, length-upFrom, eql-self}
+use Rattle.laws.proofs.ListLaws.{each-append, upFrom-snoc, any-map, keep-map, keep-append, keep-length, length-upFrom, eql-self}
 use Rattle.laws.proofs.Ascending.{elem-keep, keep-cong, head-in, later-in}
-use Rattle.mesh.specs.Rings.{Face, sameKey}
+use Rattle.mesh.specs.Rings.{Face, keyOf, sameKey}
 use Rattle.findings.specs.Findings.{Finding, overfull, overOf, overAt}
+use Rattle.findings.specs.Records.{fieldsOf, centreIn}
+use Rattle.findings.specs.Rules.{rulesWith}
+use Rattle.geometry.specs.Points.{pointsOf, centreOf}
+use Rattle.records.specs.Read.{told}
+use Rattle.records.specs.declared.Record.{Record}
 use Rattle.findings.proofs.Laws.{keep-nothing, length-snoc}
-use Rattle.index.specs.Faces.{cellOf}
+use Rattle.index.specs.Faces.{input, cellOf}
 use Rattle.index.proofs.Entries.{upFrom-split}
 use Rattle.layout.specs.declared.Layout.{Layout}
 use Rattle.layout.specs.Tables.{ringRow, keyRow, faceRow, facesAt, Faced}
-use Rattle.layout.specs.ByCell.{overFace}
+use Rattle.layout.specs.ByCell.{plainRules, overFace}
+use Rattle.layout.proofs.Reading.{first-most}
 use Rattle.overfull.specs.declared.Tally.{Tally}
-use Rattle.overfull.specs.Alike.{sameAs, alike, start, tallied}
+use Rattle.overfull.specs.Alike.{sameAs, alike, start, tallied, FaceOf}
 use Rattle.overfull.proofs.Members.{in-run}
 use Rattle.overfull.proofs.Counted.{first-count, first-second, earlier}
 
@@ -70,7 +77,7 @@ module _ (l : Layout) (t : List ℕ) (f : Faced l t) (g : ℕ) (h : g < l .at .f
   -- the test on faces, by keys
   same-is : (x : ℕ) → x < l .at .faces → sameKey (faceRow l t g) (faceRow l t x) ≡ sameAs l t g x
   unfolding sameKey faceRow sameAs
-  same-is x k = sym (ap₂ (λ (a b : List ℕ). Rattle.laws.specs.Lists.eql a b) (f .keyed g h) (f .keyed x k))
+  same-is x k = sym (ap₂ (λ (a b : List ℕ). eql a b) (f .keyed g h) (f .keyed x k))
 
   -- a face of either side is one
   low-before : (x : ℕ) → elem x before ≡ true → x < g
@@ -101,3 +108,105 @@ module _ (l : Layout) (t : List ℕ) (f : Faced l t) (g : ℕ) (h : g < l .at .f
   -- later ones are not lower
   next-high : (x : ℕ) → elem x next ≡ true → g ≤ x
   next-high x e = low-behind x (and-parts (sameAs l t g x) (elem x behind) (sym (elem-keep x (sameAs l t g) behind) ∙ e) .1) .0
+
+  -- as many as there are from g on
+  next-few : suc (length next) ≤ l .at .faces
+  next-few = omega (arith, h, keep-length (sameAs l t g) behind, length-upFrom (suc g) (l .at .faces - suc g))
+
+  -- each is a face
+  next-low : (x : ℕ) → elem x next ≡ true → x < l .at .faces
+  next-low x e = low-behind x (and-parts (sameAs l t g x) (elem x behind) (sym (elem-keep x (sameAs l t g) behind) ∙ e) .1) .1
+
+-- a face whose key one other has is no finding
+over-short : (f : Face) (more : List Face) → length more < 2 → overOf f more ≡ []
+unfolding overOf
+over-short f more h = rw (lt-leb 2 (length more) h)
+
+-- with two others it is
+over-long : (f : Face) (more : List Face) → 2 ≤ length more
+    → overOf f more ≡ overfull (f .cell) (getD (map (λ g. g .cell) more) 0 0) (f .num) (suc (length more)) (keyOf f) (f .cell ∷ map (λ g. g .cell) more) ∷ []
+unfolding overOf
+over-long f more h = rw (le-leb 2 (length more) h)
+
+-- the finding of a face g that is the first of more than two with its key, by their count T
+pub record Many (l : Layout) (t : List ℕ) (g : ℕ) (T : Tally) : Type 0 where
+  pub owners : List ℕ
+  pub found : overFace l t g ≡ overfull (cellOf (l .at) t g) (cellOf (l .at) t (T .second)) g (T .count) (keyRow l t g) owners ∷ []
+  pub second : T .second < l .at .faces
+  pub few : T .count ≤ l .at .faces
+
+module _ (l : Layout) (t : List ℕ) (f : Faced l t) (g : ℕ) (h : g < l .at .faces) (T : Tally) (is : T ≡ tallied g (alike l t g) (start g)) where
+  abbrev q : ℕ → Bool
+  q = sameAs l t g
+
+  abbrev later : List ℕ
+  later = next l t f g h
+
+  -- either a face before g has the key, or g is the first
+  either : ((T ≡ start g) × (overFace l t g ≡ [])) ⊎ ((T ≡ tallied g (g ∷ later) (start g)) × (overFace l t g ≡ overOf (faceRow l t g) (map (faceRow l t) later)))
+  either = go (tested (any q (upFrom 0 g)))
+    where
+      one : T ≡ tallied g (keep q (upFrom 0 g) ++ (g ∷ later)) (start g)
+      one = is ∙ ap (λ (r : List ℕ). tallied g r (start g)) (alike-is l t f g h)
+
+      two : (b : Bool) → any q (upFrom 0 g) ≡ b → overFace l t g ≡ onlyIf (not b) (overOf (faceRow l t g) (map (faceRow l t) later))
+      two b e = over-is l t f g h ∙ ap (λ (x : Bool). onlyIf (not x) (overOf (faceRow l t g) (map (faceRow l t) later))) e
+
+      go : (any q (upFrom 0 g) ≡ true) ⊎ (any q (upFrom 0 g) ≡ false) → ((T ≡ start g) × (overFace l t g ≡ [])) ⊎ ((T ≡ tallied g (g ∷ later) (start g)) × (overFace l t g ≡ overOf (faceRow l t g) (map (faceRow l t) later)))
+      go (inl a) = inl (one ∙ earlier g q (upFrom 0 g) (g ∷ later) a (low-before l t f g h), two true a)
+      go (inr a) = inr (one ∙ ap (λ (r : List ℕ). tallied g (r ++ (g ∷ later)) (start g)) (keep-nothing q (upFrom 0 g) a), two false a)
+
+  -- a count below three is no finding
+  pub over-few : T .count < 3 → overFace l t g ≡ []
+  over-few k = ⊎-elim (λ p. p .1) (λ p. p .1 ∙ over-short (faceRow l t g) (map (faceRow l t) later) (short (p .0))) either
+    where
+      short : T ≡ tallied g (g ∷ later) (start g) → length (map (faceRow l t) later) < 2
+      short p = omega (arith, k, length-map later (faceRow l t), ap (λ (r : Tally). r .count) p ∙ first-count g later (next-high l t f g h))
+
+  -- with g the first, and those behind it in sight
+  many : (hs : List ℕ) → ((x : ℕ) → elem x hs ≡ true → g ≤ x) → ((x : ℕ) → elem x hs ≡ true → x < l .at .faces) → suc (length hs) ≤ l .at .faces
+      → T ≡ tallied g (g ∷ hs) (start g) → overFace l t g ≡ overOf (faceRow l t g) (map (faceRow l t) hs) → 3 ≤ T .count → Many l t g T
+  unfolding faceRow
+  many [] high low most p e k = absurd (omega (arith, k, ap (λ (r : Tally). r .count) p ∙ first-count g [] high))
+  many (x ∷ hs) high low most p e k =
+      let n : T .count ≡ suc (length (x ∷ hs)) = ap (λ (r : Tally). r .count) p ∙ first-count g (x ∷ hs) high in
+      let m : suc (length (map (faceRow l t) (x ∷ hs))) ≡ T .count = omega (arith, n, length-map (x ∷ hs) (faceRow l t)) in
+      let s : T .second ≡ x = ap (λ (r : Tally). r .second) p ∙ first-second g x hs high in
+      let os : List ℕ = cellOf (l .at) t g ∷ map (λ (i : Face). i .cell) (map (faceRow l t) (x ∷ hs)) in
+      record {
+        owners = os;
+        found =
+            e ∙ over-long (faceRow l t g) (map (faceRow l t) (x ∷ hs)) (omega (arith, k, m))
+            ∙ ap₂ (λ (y i : ℕ). overfull (cellOf (l .at) t g) (cellOf (l .at) t y) g i (sort leb (ringRow l t g)) os ∷ []) (sym s) m
+            ∙ ap (λ (y : List ℕ). overfull (cellOf (l .at) t g) (cellOf (l .at) t (T .second)) g (T .count) y os ∷ []) (sym (f .keyed g h));
+        second = rw s (low x (head-in x hs));
+        few = omega (arith, n, most);
+      }
+
+  -- a count of three or more is one
+  pub over-many : 3 ≤ T .count → Many l t g T
+  over-many k =
+      ⊎-elim (λ p. absurd (omega (arith, k, ap (λ (r : Tally). r .count) (p .0))))
+      (λ p. many later (next-high l t f g h) (next-low l t f g h) (next-few l t f g h) (p .0) (p .1) k) either
+
+-- a record's fields are those of an overfull face
+pub fields-are : (r : Record) (a b g n : ℕ) (k os : List ℕ) → r .kind ≡ 2 → r .first ≡ a → r .second ≡ b → r .a ≡ g → r .b ≡ 0 → r .count ≡ n → fieldsOf (overfull a b g n k os) ≡ told r
+unfolding fieldsOf
+fields-are r a b g n k os e₁ e₂ e₃ e₄ e₅ e₆ = rw (e₁, e₂, e₃, e₄, e₅, e₆)
+
+-- its centre is that of its key
+pub centre-is : (c : List Float) (tol : Float) (a b g n : ℕ) (k os : List ℕ) → centreIn (plainRules c tol) (overfull a b g n k os) ≡ centreOf (pointsOf c k)
+unfolding centreIn rulesWith
+centre-is c tol a b g n k os = refl
+
+-- the findings of the faces from a on, and of one more
+pub each-grown : (F : ℕ → List Finding) (a g : ℕ) → a ≤ g → each F (upFrom a (g - a)) ++ F g ≡ each F (upFrom a (g + 1 - a))
+each-grown F a g h =
+    let e : g + 1 - a ≡ suc (g - a) = omega (arith, h) in
+    let d : a + (g - a) ≡ g = omega (arith, h) in
+    sym (ap (λ (k : ℕ). each F (upFrom a k)) e ∙ ap (each F) (upFrom-snoc a (g - a)) ∙ each-append F (upFrom a (g - a)) ((a + (g - a)) ∷ [])
+    ∙ ap (λ (l : List Finding). each F (upFrom a (g - a)) ++ l) (append-nil (F (a + (g - a))) ∙ ap F d))
+
+-- a face of a cell is a face
+pub face-in : (l : Layout) (w : List ℕ) → Faced l (input (l .at) w) → (c g : ℕ) → FaceOf l (input (l .at) w) c g → g < l .at .faces
+face-in l w f c g o = omega (arith, o .before, first-most l w f (c + 1) (omega (arith, o .cell)))

@@ -4,3 +4,4 @@ pub mod Members
 pub mod Nodes
 pub mod Counted
 pub mod Found
+pub mod Listing

@@ -7,6 +7,7 @@ use mathlib.Core.List.{List, [], _∷_, _++_}
 use native.Mathlib.Omega.{arith}
 use borrow.Author.Tests.{leb-true, ltb-true}
 use lib.Dec.{leb, ltb, eqb}
+use lib.ListN.{length}
 use Rattle.laws.specs.Lists.{onlyIf, any, keep, upFrom, elem, insert, sort, distinct}
 use Rattle.laws.proofs.Tests.{tested, clash, and-parts, or-swap}
 use Rattle.laws.proofs.ListLaws.{eql-true}
@@ -36,6 +37,16 @@ elem-distinct : (n : ℕ) (l : List ℕ) → elem n (distinct leb l) ≡ elem n 
 elem-distinct n [] = refl
 elem-distinct n (x ∷ l) = elem-add n x (distinct leb l) ∙ ap (λ (b : Bool). eqb n x || b) (elem-distinct n l)
 
+-- a list with a member is not empty
+member-some : (x : ℕ) (l : List ℕ) → elem x l ≡ true → 0 < length l
+member-some x [] e = absurd (false≢true e)
+member-some x (y ∷ l) e = omega arith
+
+-- nor is a ring's node set
+set-some : (r : List ℕ) → 3 ≤ length r → 0 < length (nodeSet r)
+set-some [] h = absurd (omega (arith, h))
+set-some (x ∷ r) h = member-some x (nodeSet (x ∷ r)) (elem-distinct x (x ∷ r) ∙ head-in x r)
+
 -- a number in a run of numbers
 pub in-run : (x i n : ℕ) → elem x (upFrom i n) ≡ true → (i ≤ x) × (x < i + n)
 in-run x i n e = let p = and-parts (leb i x) (ltb x (i + n)) (sym (elem-upFrom x i n) ∙ e) in (leb-true i x (p .0), ltb-true x (i + n) (p .1))
@@ -51,6 +62,10 @@ keep-weaker p q (x ∷ l) h = go (keep-weaker p q l (λ y e. h y (later-in x l y
     go ih (inr a) (inr b) = rw (a, b) ih
 
 module _ (l : Layout) (t : List ℕ) (f : Faced l t) (g : ℕ) (h : g < l .at .faces) where
+  -- a face has nodes
+  pub some-node : 0 < length (nodesOf (l .at) t g)
+  some-node = rw (f .noded g h) (set-some (ringRow l t g) (f .some g h))
+
   -- a face's nodes are the words of its key
   node-key : (v x : ℕ) → x < l .at .faces → elem v (nodesOf (l .at) t x) ≡ elem v (keyRow l t x)
   node-key v x k =

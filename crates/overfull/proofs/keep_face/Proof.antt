@@ -1,57 +1,84 @@
+-- `overfull::keep_face` meets its contract: the count settles whether there is a finding, and the record has its fields (Found).
+use Prim.Native.Nat.{ℕ, _+_}
+use mathlib.Core.Path.{_≡_, refl, sym, ap, _∙_, subst}
+use mathlib.Core.List.{List, [], _∷_}
+use native.Mathlib.Omega.{arith}
+use Rattle.findings.specs.Findings.{Finding, overfull}
+use Rattle.records.specs.Keeping.{Kept}
+use Rattle.records.proofs.Keeping.{kept-none}
+use Rattle.index.specs.Faces.{input, cellOf}
+use Rattle.layout.specs.Tables.{keyRow}
+use Rattle.layout.specs.ByCell.{plainRules}
+use Rattle.overfull.proofs.Found.{over-few, over-many, fields-are, centre-is, face-in}
 use borrow.Author.Needs.{needs}
 use Rattle.overfull.proofs.keep_face.Statement.{statement}
 use Rattle.overfull.proofs.keep_face.Tie as tie
-use Rattle.overfull.proofs.keep_face.Reads as reads
-use Rattle.overfull.proofs.keep_face.Lts as lts
-use Rattle.counting.proofs.narrow.Reads as narrow-reads
-use Rattle.layout.proofs.cell_of.Reads as cell-of-reads
-use Rattle.overfull.proofs.centre_of.Reads as centre-of-reads
-use Rattle.overfull.proofs.count_alike.Reads as count-alike-reads
-use Rattle.records.proofs.keep_record.Reads as keep-record-reads
 
--- src/lib.rt:139:9
 count-alike-requires : tie.Need-count-alike-requires
-count-alike-requires c κs = ?
+count-alike-requires c κs =
+    let b = c .before .before .before in
+    let a = b .args in
+    (b .pre .0, face-in (a .l) (a .work .now) (b .pre .0 .faced) (a .c) (a .g) (b .pre .1 .0 .0))
 
--- src/lib.rt:141:9
 returns : tie.Need-returns
-returns c = ?
+returns c =
+    let b = c .before .before .before .before .before .before in
+    let a = b .args in
+    (
+      λ tol. subst (λ (xs : List Finding). Kept (plainRules (a .coords .now) tol) (a .room) (a .n) xs (a .findings .now) (a .findings .now) (a .n)) (sym (over-few (a .l) (input (a .l .at) (a .work .now)) (b .pre .0 .faced) (a .g) (face-in (a .l) (a .work .now) (b .pre .0 .faced) (a .c) (a .g) (b .pre .1 .0 .0)) (c .before .before .count-alike .result) (c .before .before .count-alike .ensures) (c .if1 .taken))) (kept-none (plainRules (a .coords .now) tol) (a .room) (a .n) (a .findings .now)),
+      omega arith,
+    )
 
--- src/lib.rt:146:16
 narrow-requires : tie.Need-narrow-requires
-narrow-requires c κs = search needs
+narrow-requires c κs =
+    let b = c .before .before .before .before .before .before in
+    let a = b .args in
+    omega (arith, b .pre .1 .0 .0 .cell, b .pre .0 .spaced .few-cells)
 
--- src/lib.rt:147:34
 cell-of-requires : tie.Need-cell-of-requires
-cell-of-requires c κs = ?
+cell-of-requires c κs =
+    let b = c .before .before .before .before .before .before .before in
+    let a = b .args in
+    (b .pre .0 .faced, over-many (a .l) (input (a .l .at) (a .work .now)) (b .pre .0 .faced) (a .g) (face-in (a .l) (a .work .now) (b .pre .0 .faced) (a .c) (a .g) (b .pre .1 .0 .0)) (c .before .before .before .count-alike .result) (c .before .before .before .count-alike .ensures) (omega (arith, c .before .if1 .left)) .second)
 
--- src/lib.rt:147:17
 narrow-requires-2 : tie.Need-narrow-requires-2
-narrow-requires-2 c κs = search needs
+narrow-requires-2 c κs =
+    let b = c .before .before .before .before .before .before .before .before in
+    let a = b .args in
+    omega (arith, c .cell-of .ensures .1, b .pre .0 .spaced .few-cells)
 
--- src/lib.rt:148:12
 narrow-requires-3 : tie.Need-narrow-requires-3
-narrow-requires-3 c κs = ?
+narrow-requires-3 c κs =
+    let b = c .before .before .before .before .before .before .before .before .before in
+    let a = b .args in
+    omega (arith, face-in (a .l) (a .work .now) (b .pre .0 .faced) (a .c) (a .g) (b .pre .1 .0 .0), b .pre .0 .spaced .few-faces)
 
--- src/lib.rt:150:16
 narrow-requires-4 : tie.Need-narrow-requires-4
-narrow-requires-4 c κs = ?
+narrow-requires-4 c κs =
+    let b = c .before .before .before .before .before .before .before .before .before .before in
+    let a = b .args in
+    omega (arith, over-many (a .l) (input (a .l .at) (a .work .now)) (b .pre .0 .faced) (a .g) (face-in (a .l) (a .work .now) (b .pre .0 .faced) (a .c) (a .g) (b .pre .1 .0 .0)) (c .before .before .before .before .before .before .count-alike .result) (c .before .before .before .before .before .before .count-alike .ensures) (omega (arith, c .before .before .before .before .if1 .left)) .few, b .pre .0 .spaced .few-faces)
 
--- src/lib.rt:152:48
 centre-of-requires : tie.Need-centre-of-requires
-centre-of-requires c κs = ?
+centre-of-requires c κs =
+    let b = c .before .before .before .before .before .before .before .before .before .before .before .before in
+    let a = b .args in
+    (b .pre .0 .faced, (face-in (a .l) (a .work .now) (b .pre .0 .faced) (a .c) (a .g) (b .pre .1 .0 .0), b .pre .1 .0 .1))
 
--- src/lib.rt:152:5
 keep-record-requires : tie.Need-keep-record-requires
 keep-record-requires c κs = search needs
 
--- src/lib.rt:123:1
 same-length : tie.Need-same-length
 same-length c = search needs
 
--- src/lib.rt:123:1
 returns-2 : tie.Need-returns-2
-returns-2 c = ?
+returns-2 c =
+    let b = c .before .before .before .before .before .before .before .before .before .before .before .before .before .before .before .before in
+    let a = b .args in
+    let m = over-many (a .l) (input (a .l .at) (a .work .now)) (b .pre .0 .faced) (a .g) (face-in (a .l) (a .work .now) (b .pre .0 .faced) (a .c) (a .g) (b .pre .1 .0 .0)) (c .before .before .before .before .before .before .before .before .before .before .before .before .count-alike .result) (c .before .before .before .before .before .before .before .before .before .before .before .before .count-alike .ensures) (omega (arith, c .before .before .before .before .before .before .before .before .before .before .if1 .left)) in
+    let x = overfull (cellOf (a .l .at) (input (a .l .at) (a .work .now)) (a .g)) (cellOf (a .l .at) (input (a .l .at) (a .work .now)) (c .before .before .before .before .before .before .before .before .before .before .before .before .count-alike .result .second)) (a .g) (c .before .before .before .before .before .before .before .before .before .before .before .before .count-alike .result .count) (keyRow (a .l) (input (a .l .at) (a .work .now)) (a .g)) (m .owners) in
+    let same = fields-are _ _ _ _ _ _ _ refl (c .before .before .before .before .before .before .before .before .before .narrow .ensures ∙ sym (b .pre .0 .faced .owned (a .c) (a .g) (b .pre .1 .0 .0 .cell) (b .pre .1 .0 .0 .from) (b .pre .1 .0 .0 .before))) (c .before .before .before .before .before .before .before .narrow2 .ensures ∙ c .before .before .before .before .before .before .before .before .cell-of .ensures .0) (c .before .before .before .before .before .before .narrow3 .ensures) refl (c .before .before .before .before .before .narrow4 .ensures) in
+    ?
 
 pub keep-face-spec : {M : Type 1} → statement M
 keep-face-spec =

@@ -18,7 +18,7 @@ abbrev μ-loop : tie.MeasureT-loop
 μ-loop base at g s k v₀ least₀ i₀ v least i = k - i
 
 -- the first word is a member
-first : (c : tie.After-wide) → elem (c .wide .result) (nodesOf (c .before .before .before .before .before .args .at) (input (c .before .before .before .before .before .args .at) (c .before .before .before .before .before .args .base .now)) (c .before .before .before .before .before .args .g)) ≡ true
+first : (c : tie.After-wide Inv-loop μ-loop) → elem (c .wide .result) (nodesOf (c .before .before .before .before .before .args .at) (input (c .before .before .before .before .before .args .at) (c .before .before .before .before .before .args .base .now)) (c .before .before .before .before .before .args .g)) ≡ true
 first c =
     let b = c .before .before .before .before .before in
     let n : 0 < c .before .before .set-size .result = omega (arith, c .before .before .set-size .ensures, b .pre .1 .1) in
@@ -26,8 +26,8 @@ first c =
     word-member (c .before .before .before .before .before .args .at) (c .before .before .before .before .before .args .base .now) (c .before .before .before .before .before .pre .0) (c .before .before .before .before .before .args .g) (c .before .before .before .before .before .pre .1 .0) (c .before .before .before .set-start .result) (c .before .before .set-size .result) (c .before .before .before .set-start .ensures) (c .before .before .set-size .ensures) 0 n (c .wide .result) (c .wide .ensures ∙ ap (λ (x : ℕ). getD (b .args .base .now) x 0) z)
 
 -- and so is a later one
-later : (c : tie.After-wide2 Inv-loop μ-loop) → elem (c .wide2 .result) (nodesOf (c .before .before .before .before .before .before .before .before .before .args .at) (input (c .before .before .before .before .before .before .before .before .before .args .at) (c .before .before .before .before .before .before .before .before .before .args .base .now)) (c .before .before .before .before .before .before .before .before .before .args .g)) ≡ true
-later c = word-member (c .before .before .before .before .before .before .before .before .before .args .at) (c .before .before .before .before .before .before .before .before .before .args .base .now) (c .before .before .before .before .before .before .before .before .before .pre .0) (c .before .before .before .before .before .before .before .before .before .args .g) (c .before .before .before .before .before .before .before .before .before .pre .1 .0) (c .before .before .before .before .before .before .before .set-start .result) (c .before .before .before .before .before .before .set-size .result) (c .before .before .before .before .before .before .before .set-start .ensures) (c .before .before .before .before .before .before .set-size .ensures) (c .before .before .before .loop .i) (c .before .before .loop-test .taken) (c .wide2 .result) (c .wide2 .ensures)
+later : (c : tie.After-wide2 Inv-loop μ-loop) → elem (c .wide2 .result) (nodesOf (c .before .before .before .before .before .before .before .before .before .before .args .at) (input (c .before .before .before .before .before .before .before .before .before .before .args .at) (c .before .before .before .before .before .before .before .before .before .before .args .base .now)) (c .before .before .before .before .before .before .before .before .before .before .args .g)) ≡ true
+later c = word-member (c .before .before .before .before .before .before .before .before .before .before .args .at) (c .before .before .before .before .before .before .before .before .before .before .args .base .now) (c .before .before .before .before .before .before .before .before .before .before .pre .0) (c .before .before .before .before .before .before .before .before .before .before .args .g) (c .before .before .before .before .before .before .before .before .before .before .pre .1 .0) (c .before .before .before .before .before .before .before .before .set-start .result) (c .before .before .before .before .before .before .before .set-size .result) (c .before .before .before .before .before .before .before .before .set-start .ensures) (c .before .before .before .before .before .before .before .set-size .ensures) (c .before .before .before .loop .i) (c .before .before .loop-test .taken) (c .wide2 .result) (c .wide2 .ensures)
 
 set-start-requires : tie.Need-set-start-requires Inv-loop μ-loop
 set-start-requires c κs = search needs
@@ -57,20 +57,20 @@ loop-holds : tie.Need-loop-holds Inv-loop μ-loop
 loop-holds c = first (c .before)
 
 add-wide : tie.Need-add-wide Inv-loop μ-loop
-add-wide c = omega (arith, c .before .before .before .before .before .before .before .good .0, word-in (c .before .before .before .before .before .before .before .args .at) (c .before .before .before .before .before .before .before .args .base .now) (c .before .before .before .before .before .before .before .pre .0) (c .before .before .before .before .before .before .before .args .g) (c .before .before .before .before .before .before .before .pre .1 .0) (c .before .before .before .before .before .set-start .result) (c .before .before .before .before .set-size .result) (c .before .before .before .before .before .set-start .ensures) (c .before .before .before .before .set-size .ensures) (c .before .loop .i) (c .loop-test .taken))
+add-wide c = omega (arith, c .before .before .before .before .before .before .before .before .good .0, word-in (c .before .before .before .before .before .before .before .before .args .at) (c .before .before .before .before .before .before .before .before .args .base .now) (c .before .before .before .before .before .before .before .before .pre .0) (c .before .before .before .before .before .before .before .before .args .g) (c .before .before .before .before .before .before .before .before .pre .1 .0) (c .before .before .before .before .before .before .set-start .result) (c .before .before .before .before .before .set-size .result) (c .before .before .before .before .before .before .set-start .ensures) (c .before .before .before .before .before .set-size .ensures) (c .before .loop .i) (c .loop-test .taken))
 
 mul-wide-2 : tie.Need-mul-wide-2 Inv-loop μ-loop
-mul-wide-2 c = omega (arith, c .before .before .before .before .before .before .before .good .0, word-in (c .before .before .before .before .before .before .before .args .at) (c .before .before .before .before .before .before .before .args .base .now) (c .before .before .before .before .before .before .before .pre .0) (c .before .before .before .before .before .before .before .args .g) (c .before .before .before .before .before .before .before .pre .1 .0) (c .before .before .before .before .before .set-start .result) (c .before .before .before .before .set-size .result) (c .before .before .before .before .before .set-start .ensures) (c .before .before .before .before .set-size .ensures) (c .before .loop .i) (c .loop-test .taken))
+mul-wide-2 c = omega (arith, c .before .before .before .before .before .before .before .before .good .0, word-in (c .before .before .before .before .before .before .before .before .args .at) (c .before .before .before .before .before .before .before .before .args .base .now) (c .before .before .before .before .before .before .before .before .pre .0) (c .before .before .before .before .before .before .before .before .args .g) (c .before .before .before .before .before .before .before .before .pre .1 .0) (c .before .before .before .before .before .before .set-start .result) (c .before .before .before .before .before .set-size .result) (c .before .before .before .before .before .before .set-start .ensures) (c .before .before .before .before .before .set-size .ensures) (c .before .loop .i) (c .loop-test .taken))
 
 shared-slice-read-wide-2 : tie.Need-shared-slice-read-wide-2 Inv-loop μ-loop
-shared-slice-read-wide-2 c = omega (arith, word-in (c .before .before .before .before .before .before .before .before .args .at) (c .before .before .before .before .before .before .before .before .args .base .now) (c .before .before .before .before .before .before .before .before .pre .0) (c .before .before .before .before .before .before .before .before .args .g) (c .before .before .before .before .before .before .before .before .pre .1 .0) (c .before .before .before .before .before .before .set-start .result) (c .before .before .before .before .before .set-size .result) (c .before .before .before .before .before .before .set-start .ensures) (c .before .before .before .before .before .set-size .ensures) (c .before .before .loop .i) (c .before .loop-test .taken))
+shared-slice-read-wide-2 c = omega (arith, word-in (c .before .before .before .before .before .before .before .before .before .args .at) (c .before .before .before .before .before .before .before .before .before .args .base .now) (c .before .before .before .before .before .before .before .before .before .pre .0) (c .before .before .before .before .before .before .before .before .before .args .g) (c .before .before .before .before .before .before .before .before .before .pre .1 .0) (c .before .before .before .before .before .before .before .set-start .result) (c .before .before .before .before .before .before .set-size .result) (c .before .before .before .before .before .before .before .set-start .ensures) (c .before .before .before .before .before .before .set-size .ensures) (c .before .before .loop .i) (c .before .loop-test .taken))
 
 wide-requires-2 : tie.Need-wide-requires-2 Inv-loop μ-loop
 wide-requires-2 c κs = search needs
 
 list-length-requires-2 : tie.Need-list-length-requires-2 Inv-loop μ-loop
 list-length-requires-2 c κs =
-    let b = c .before .before .before .before .before .before .before .before .before in
+    let b = c .before .before .before .before .before .before .before .before .before .before in
     (b .pre .0, member-low (b .args .at) (b .args .base .now) (b .pre .0) (b .args .g) (b .pre .1 .0) (c .wide2 .result) (later c))
 
 add-i : tie.Need-add-i Inv-loop μ-loop

@@ -37,7 +37,7 @@ same-key-requires : tie.Need-same-key-requires Inv-loop μ-loop
 same-key-requires c κs =
     let b = c .before .before .before .before .before in
     let a = b .args in
-    (b .pre .0, b .pre .1 .face, omega (arith, c .wide .ensures, b .pre .1 .faces (c .before .before .before .loop .i) (c .before .before .before .loop .inv .0) (c .before .before .loop-test .taken)))
+    (b .pre .0, (b .pre .1 .face, omega (arith, c .wide .ensures, b .pre .1 .faces (c .before .before .before .loop .i) (c .before .before .before .loop .inv .0) (c .before .before .loop-test .taken))))
 
 returns : tie.Need-returns Inv-loop μ-loop
 returns c =
@@ -46,7 +46,8 @@ returns c =
     let o = c .before .before .before .before .before .before .loop in
     let h = c .before .before .before .wide .result in
     let k = kept-same (sameAs (a .l) (input (a .l .at) (a .work .now)) (a .g)) (o .i) (a .e) h (a .work .now) (c .before .before .before .wide .ensures) (c .before .before .before .before .before .loop-test .taken) (b .pre .1 .within) (sym (c .before .before .same-key .ensures) ∙ c .before .if1 .taken) in
-    sym (ap (λ (r : List ℕ). tallied (a .g) r (o .s)) k ∙ lower (a .g) h _ (o .s) (c .if2 .taken)) ∙ o .inv .3
+    let hs = keep (sameAs (a .l) (input (a .l .at) (a .work .now)) (a .g)) (rest (o .i + 1) (a .e) (a .work .now)) in
+    sym (ap (λ (r : List ℕ). tallied (a .g) r (o .s)) k ∙ lower (a .g) h hs (o .s) (c .if2 .taken)) ∙ o .inv .3
 
 note-requires : tie.Need-note-requires Inv-loop μ-loop
 note-requires c κs =
