@@ -3,31 +3,25 @@ use Prim.Native.Nat.{ℕ, zero, suc, _+_, _-_, _≤_, _<_}
 use mathlib.Core.Path.{_≡_, refl, sym, ap, ap₂, _∙_, subst}
 use mathlib.Core.Logic.{_⊎_, inl, inr, ⊎-elim}
 use mathlib.Core.Bool.{Bool, true, false, not, _||_}
-use mathlib.Core.List.{List, [], _∷_, _++_, map, map-append, append-assoc, append-nil}
+use mathlib.Core.List.{List, [], _∷_, _++_, map, map-append, append-assoc}
 use native.Mathlib.Omega.{arith}
 use native.Mathlib.Nat.{zero-add}
 use borrow.Author.Tests.{le-leb, lt-leb}
 use lib.Dec.{leb}
 use lib.ListN.{length, getD, take, drop, length-map}
 use lib.Seq.{take-at, drop-at}
-use lib.Ieee.{Float}
-use Rattle.laws.specs.Lists.{onlyIf, any, each, keep, upFrom, elem, sort, eql}
+use Rattle.laws.specs.Lists.{onlyIf, any, keep, upFrom, elem, sort, eql}
 use Rattle.laws.proofs.Tests.{tested, and-parts}
-use Rattle.laws.proofs.ListLaws.{each-append, upFrom-snoc, any-map, keep-map, keep-append, keep-length, length-upFrom, eql-self}
+use Rattle.laws.proofs.ListLaws.{any-map, keep-map, keep-append, keep-length, length-upFrom, eql-self}
 use Rattle.laws.proofs.Ascending.{elem-keep, keep-cong, head-in, later-in}
 use Rattle.mesh.specs.Rings.{Face, keyOf, sameKey}
 use Rattle.findings.specs.Findings.{Finding, overfull, overOf, overAt}
-use Rattle.findings.specs.Records.{fieldsOf, centreIn}
-use Rattle.findings.specs.Rules.{rulesWith}
-use Rattle.geometry.specs.Points.{pointsOf, centreOf}
-use Rattle.records.specs.Read.{told}
-use Rattle.records.specs.declared.Record.{Record}
 use Rattle.findings.proofs.Laws.{keep-nothing, length-snoc}
 use Rattle.index.specs.Faces.{input, cellOf}
 use Rattle.index.proofs.Entries.{upFrom-split}
 use Rattle.layout.specs.declared.Layout.{Layout}
 use Rattle.layout.specs.Tables.{ringRow, keyRow, faceRow, facesAt, Faced}
-use Rattle.layout.specs.ByCell.{plainRules, overFace}
+use Rattle.layout.specs.ByCell.{overFace}
 use Rattle.layout.proofs.Reading.{first-most}
 use Rattle.overfull.specs.declared.Tally.{Tally}
 use Rattle.overfull.specs.Alike.{sameAs, alike, start, tallied, FaceOf}
@@ -188,24 +182,6 @@ module _ (l : Layout) (t : List ℕ) (f : Faced l t) (g : ℕ) (h : g < l .at .f
   over-many k =
       ⊎-elim (λ p. absurd (omega (arith, k, ap (λ (r : Tally). r .count) (p .0))))
       (λ p. many later (next-high l t f g h) (next-low l t f g h) (next-few l t f g h) (p .0) (p .1) k) either
-
--- a record's fields are those of an overfull face
-pub fields-are : (r : Record) (a b g n : ℕ) (k os : List ℕ) → r .kind ≡ 2 → r .first ≡ a → r .second ≡ b → r .a ≡ g → r .b ≡ 0 → r .count ≡ n → fieldsOf (overfull a b g n k os) ≡ told r
-unfolding fieldsOf
-fields-are r a b g n k os e₁ e₂ e₃ e₄ e₅ e₆ = rw (e₁, e₂, e₃, e₄, e₅, e₆)
-
--- its centre is that of its key
-pub centre-is : (c : List Float) (tol : Float) (a b g n : ℕ) (k os : List ℕ) → centreIn (plainRules c tol) (overfull a b g n k os) ≡ centreOf (pointsOf c k)
-unfolding centreIn rulesWith
-centre-is c tol a b g n k os = refl
-
--- the findings of the faces from a on, and of one more
-pub each-grown : (F : ℕ → List Finding) (a g : ℕ) → a ≤ g → each F (upFrom a (g - a)) ++ F g ≡ each F (upFrom a (g + 1 - a))
-each-grown F a g h =
-    let e : g + 1 - a ≡ suc (g - a) = omega (arith, h) in
-    let d : a + (g - a) ≡ g = omega (arith, h) in
-    sym (ap (λ (k : ℕ). each F (upFrom a k)) e ∙ ap (each F) (upFrom-snoc a (g - a)) ∙ each-append F (upFrom a (g - a)) ((a + (g - a)) ∷ [])
-    ∙ ap (λ (l : List Finding). each F (upFrom a (g - a)) ++ l) (append-nil (F (a + (g - a))) ∙ ap F d))
 
 -- a face of a cell is a face
 pub face-in : (l : Layout) (w : List ℕ) → Faced l (input (l .at) w) → (c g : ℕ) → FaceOf l (input (l .at) w) c g → g < l .at .faces

@@ -5,3 +5,4 @@ pub mod Nodes
 pub mod Counted
 pub mod Found
 pub mod Listing
+pub mod Keeping

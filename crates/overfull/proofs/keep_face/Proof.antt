@@ -1,15 +1,10 @@
 -- `overfull::keep_face` meets its contract: the count settles whether there is a finding, and the record has its fields (Found).
-use Prim.Native.Nat.{ℕ, _+_}
-use mathlib.Core.Path.{_≡_, refl, sym, ap, _∙_, subst}
-use mathlib.Core.List.{List, [], _∷_}
+use mathlib.Core.Path.{refl, sym, _∙_}
 use native.Mathlib.Omega.{arith}
-use Rattle.findings.specs.Findings.{Finding, overfull}
-use Rattle.records.specs.Keeping.{Kept}
-use Rattle.records.proofs.Keeping.{kept-none}
-use Rattle.index.specs.Faces.{input, cellOf}
-use Rattle.layout.specs.Tables.{keyRow}
-use Rattle.layout.specs.ByCell.{plainRules}
-use Rattle.overfull.proofs.Found.{over-few, over-many, fields-are, centre-is, face-in}
+use Rattle.index.specs.Faces.{input}
+use Rattle.layout.specs.ByCell.{overFace}
+use Rattle.overfull.proofs.Found.{over-few, over-many, face-in}
+use Rattle.overfull.proofs.Keeping.{none-kept, many-kept}
 use borrow.Author.Needs.{needs}
 use Rattle.overfull.proofs.keep_face.Statement.{statement}
 use Rattle.overfull.proofs.keep_face.Tie as tie
@@ -24,10 +19,7 @@ returns : tie.Need-returns
 returns c =
     let b = c .before .before .before .before .before .before in
     let a = b .args in
-    (
-      λ tol. subst (λ (xs : List Finding). Kept (plainRules (a .coords .now) tol) (a .room) (a .n) xs (a .findings .now) (a .findings .now) (a .n)) (sym (over-few (a .l) (input (a .l .at) (a .work .now)) (b .pre .0 .faced) (a .g) (face-in (a .l) (a .work .now) (b .pre .0 .faced) (a .c) (a .g) (b .pre .1 .0 .0)) (c .before .before .count-alike .result) (c .before .before .count-alike .ensures) (c .if1 .taken))) (kept-none (plainRules (a .coords .now) tol) (a .room) (a .n) (a .findings .now)),
-      omega arith,
-    )
+    (none-kept (a .coords .now) (a .room) (a .n) (overFace (a .l) (input (a .l .at) (a .work .now)) (a .g)) (a .findings .now) (over-few (a .l) (input (a .l .at) (a .work .now)) (b .pre .0 .faced) (a .g) (face-in (a .l) (a .work .now) (b .pre .0 .faced) (a .c) (a .g) (b .pre .1 .0 .0)) (c .before .before .count-alike .result) (c .before .before .count-alike .ensures) (c .if1 .taken)), omega arith)
 
 narrow-requires : tie.Need-narrow-requires
 narrow-requires c κs =
@@ -75,10 +67,14 @@ returns-2 : tie.Need-returns-2
 returns-2 c =
     let b = c .before .before .before .before .before .before .before .before .before .before .before .before .before .before .before .before in
     let a = b .args in
-    let m = over-many (a .l) (input (a .l .at) (a .work .now)) (b .pre .0 .faced) (a .g) (face-in (a .l) (a .work .now) (b .pre .0 .faced) (a .c) (a .g) (b .pre .1 .0 .0)) (c .before .before .before .before .before .before .before .before .before .before .before .before .count-alike .result) (c .before .before .before .before .before .before .before .before .before .before .before .before .count-alike .ensures) (omega (arith, c .before .before .before .before .before .before .before .before .before .before .if1 .left)) in
-    let x = overfull (cellOf (a .l .at) (input (a .l .at) (a .work .now)) (a .g)) (cellOf (a .l .at) (input (a .l .at) (a .work .now)) (c .before .before .before .before .before .before .before .before .before .before .before .before .count-alike .result .second)) (a .g) (c .before .before .before .before .before .before .before .before .before .before .before .before .count-alike .result .count) (keyRow (a .l) (input (a .l .at) (a .work .now)) (a .g)) (m .owners) in
-    let same = fields-are _ _ _ _ _ _ _ refl (c .before .before .before .before .before .before .before .before .before .narrow .ensures ∙ sym (b .pre .0 .faced .owned (a .c) (a .g) (b .pre .1 .0 .0 .cell) (b .pre .1 .0 .0 .from) (b .pre .1 .0 .0 .before))) (c .before .before .before .before .before .before .before .narrow2 .ensures ∙ c .before .before .before .before .before .before .before .before .cell-of .ensures .0) (c .before .before .before .before .before .before .narrow3 .ensures) refl (c .before .before .before .before .before .narrow4 .ensures) in
-    ?
+    let o = b .pre .1 .0 .0 in
+    let T = c .before .before .before .before .before .before .before .before .before .before .before .before .count-alike .result in
+    let m = over-many (a .l) (input (a .l .at) (a .work .now)) (b .pre .0 .faced) (a .g) (face-in (a .l) (a .work .now) (b .pre .0 .faced) (a .c) (a .g) (b .pre .1 .0 .0)) T (c .before .before .before .before .before .before .before .before .before .before .before .before .count-alike .ensures) (omega (arith, c .before .before .before .before .before .before .before .before .before .before .if1 .left)) in
+    many-kept (a .coords .now) (a .room) (a .n) (a .l) (input (a .l .at) (a .work .now)) (a .g) T m
+    (record { kind = 2; first = c .before .before .before .before .before .before .before .before .before .narrow .result; second = c .before .before .before .before .before .before .before .narrow2 .result; a = c .before .before .before .before .before .before .narrow3 .result; b = 0; count = c .before .before .before .before .before .narrow4 .result })
+    (c .before .before .before .centre-of .result) (a .findings .now) (c .before .before .keep-record .last .0) (c .before .before .keep-record .result) refl
+    (c .before .before .before .before .before .before .before .before .before .narrow .ensures ∙ sym (b .pre .0 .faced .owned (a .c) (a .g) (o .cell) (o .from) (o .before))) (c .before .before .before .before .before .before .before .narrow2 .ensures ∙ c .before .before .before .before .before .before .before .before .cell-of .ensures .0) (c .before .before .before .before .before .before .narrow3 .ensures) refl (c .before .before .before .before .before .narrow4 .ensures)
+    (c .before .before .before .centre-of .ensures) (c .before .before .keep-record .ensures)
 
 pub keep-face-spec : {M : Type 1} → statement M
 keep-face-spec =
