@@ -3,6 +3,8 @@ use Prim.Native.Nat.{ℕ, suc, _+_, _-_, _≤_}
 use mathlib.Core.Path.{_≡_, refl, sym, ap, _∙_, subst}
 use mathlib.Core.List.{List, [], _∷_, _++_, append-nil}
 use native.Mathlib.Omega.{arith}
+use lib.ListN.{length}
+use lib.Seq.{length-sets}
 use lib.Ieee.{Float}
 use Rattle.laws.specs.Lists.{each, upFrom}
 use Rattle.laws.proofs.ListLaws.{each-append, upFrom-snoc}
@@ -70,3 +72,7 @@ module _ (coords : List Float) (room n : ℕ) where
   -- the same list under another name
   pub kept-as : {xs ys : List Finding} {f f' : List ℕ} {k : ℕ} → xs ≡ ys → KeptPlain coords room n xs f f' k → KeptPlain coords room n ys f f' k
   kept-as {f = f} {f' = f'} {k = k} e p = subst (λ (zs : List Finding). KeptPlain coords room n zs f f' k) e p
+
+  -- and the slice keeps its length
+  pub kept-long : {xs : List Finding} {f f' : List ℕ} {k : ℕ} → KeptPlain coords room n xs f f' k → length f' ≡ length f
+  kept-long p = ap length (p zero64 .bytes) ∙ simp length-sets

@@ -1,6 +1,6 @@
 -- `overfull::keep_overfull` meets its contract. The loop's invariant: the findings of the faces passed are kept.
 use Prim.Native.Nat.{ℕ, _+_, _-_, _≤_}
-use mathlib.Core.Path.{_≡_, refl, ap, ap₂}
+use mathlib.Core.Path.{_≡_, refl, ap, ap₂, _∙_}
 use native.Mathlib.Omega.{arith}
 use borrow.Author.Needs.{needs}
 use lib.ListN.{length}
@@ -9,7 +9,7 @@ use Rattle.index.specs.Faces.{input}
 use Rattle.layout.specs.Tables.{firstOf}
 use Rattle.layout.specs.ByCell.{overFace, overCell}
 use Rattle.overfull.specs.Alike.{KeptPlain}
-use Rattle.overfull.proofs.Keeping.{none-kept, grown-kept, kept-as}
+use Rattle.overfull.proofs.Keeping.{none-kept, grown-kept, kept-as, kept-long}
 use Rattle.overfull.proofs.keep_overfull.Statement.{statement}
 use Rattle.overfull.proofs.keep_overfull.Tie as tie
 
@@ -79,8 +79,8 @@ loop-again c =
       omega (arith, o .inv .0),
       omega (arith, c .before .before .before .before .loop-test .taken),
       omega (arith, k .ensures .1, o .inv .2, o .inv .0),
-      ?,
-      grown-kept (a .coords .now) (a .room) (a .n) (overFace (a .l) (input (a .l .at) (a .work .now))) (c .before .before .before .before .before .before .first-face2 .result) (o .g) (a .findings .now) (o .findings) (k .last .0) (o .n) (k .result) (o .inv .0) (o .inv .4) (k .ensures .0),
+      kept-long (a .coords .now) (a .room) (o .n) (k .ensures .0) ∙ o .inv .3,
+      grown-kept (a .coords .now) (a .room) (a .n) (overFace (a .l) (input (a .l .at) (a .work .now))) (c .before .before .before .before .before .before .first-face2 .result) (o .g) (a .findings .now) (o .findings) (k .last .1 .1 .1 .1 .1 .0) (o .n) (k .result) (o .inv .0) (o .inv .4) (k .ensures .0),
     )
 
 same-length : tie.Need-same-length Inv-loop μ-loop
