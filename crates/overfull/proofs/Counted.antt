@@ -2,11 +2,10 @@
 use Prim.Native.Nat.{ℕ, suc, _+_, _-_, _≤_, _<_}
 use mathlib.Core.Path.{_≡_, refl, sym, ap, _∙_}
 use mathlib.Core.Logic.{_⊎_, inl, inr}
-use mathlib.Core.Bool.{Bool, true, false, cond, false≢true}
+use mathlib.Core.Bool.{Bool, true, false, false≢true}
 use mathlib.Core.List.{List, [], _∷_, _++_}
 use native.Mathlib.Omega.{arith}
 use borrow.Author.Tests.{lt-ltb, le-ltb, ne-eqb}
-use lib.Dec.{ltb, eqb}
 use lib.ListN.{length, getD, take, drop}
 use Rattle.laws.specs.Lists.{onlyIf, any, keep, elem}
 use Rattle.laws.proofs.Tests.{tested}
@@ -36,10 +35,9 @@ second-stays g (h ∷ hs) s f k =
     ∙ second-stays g hs (noted h s) (λ x e. f x (later-in h hs x e)) (omega (arith, k))
     ∙ rw (ne-eqb (s .count + 1) 2 (λ e. omega (arith, e, k)))
 
-module _ (g : ℕ) (hs : List ℕ) (f : (h : ℕ) → elem h hs ≡ true → g ≤ h) where
-  -- g and those behind it
-  pub first-count : tallied g (g ∷ hs) (start g) .count ≡ suc (length hs)
-  first-count = ap (λ (r : Tally). r .count) (met g g hs (start g) (omega arith)) ∙ all-count g hs (noted g (start g)) f ∙ omega arith
+-- g and those behind it are one more than these
+pub first-count : (g : ℕ) (hs : List ℕ) → ((h : ℕ) → elem h hs ≡ true → g ≤ h) → tallied g (g ∷ hs) (start g) .count ≡ suc (length hs)
+first-count g hs f = ap (λ (r : Tally). r .count) (met g g hs (start g) (omega arith)) ∙ all-count g hs (noted g (start g)) f ∙ omega arith
 
 -- the first behind g is the second
 pub first-second : (g h : ℕ) (hs : List ℕ) → ((x : ℕ) → elem x (h ∷ hs) ≡ true → g ≤ x) → tallied g (g ∷ h ∷ hs) (start g) .second ≡ h
@@ -67,6 +65,7 @@ pub kept-end : (p : ℕ → Bool) (i e : ℕ) (w : List ℕ) → e ≤ i → kee
 kept-end p i e w h = let z : e - i ≡ 0 = omega (arith, h) in ap (λ (k : ℕ). keep p (take k (drop i w))) z
 
 module _ (p : ℕ → Bool) (i e h : ℕ) (w : List ℕ) (is : h ≡ getD w i 0) (k : i < e) (long : e ≤ length w) where
+  -- the next word, where it passes, and what the rest keeps
   kept-next : keep p (rest i e w) ≡ onlyIf (p h) (h ∷ []) ++ keep p (rest (i + 1) e w)
   kept-next =
       ap (keep p) (rest-cons i e w k long)

@@ -1,6 +1,6 @@
 -- The finding of a face, by the count of the faces with its key.
-use Prim.Native.Nat.{ℕ, zero, suc, _+_, _-_, _≤_, _<_}
-use mathlib.Core.Path.{_≡_, refl, sym, ap, ap₂, _∙_, subst}
+use Prim.Native.Nat.{ℕ, suc, _+_, _-_, _≤_, _<_}
+use mathlib.Core.Path.{_≡_, refl, sym, ap, ap₂, _∙_}
 use mathlib.Core.Logic.{_⊎_, inl, inr, ⊎-elim}
 use mathlib.Core.Bool.{Bool, true, false, not, _||_}
 use mathlib.Core.List.{List, [], _∷_, _++_, map, map-append, append-assoc}
@@ -15,7 +15,7 @@ use Rattle.laws.proofs.Tests.{tested, and-parts}
 use Rattle.laws.proofs.ListLaws.{any-map, keep-map, keep-append, keep-length, length-upFrom, eql-self}
 use Rattle.laws.proofs.Ascending.{elem-keep, keep-cong, head-in, later-in}
 use Rattle.mesh.specs.Rings.{Face, keyOf, sameKey}
-use Rattle.findings.specs.Findings.{Finding, overfull, overOf, overAt}
+use Rattle.findings.specs.Findings.{overfull, overOf, overAt}
 use Rattle.findings.proofs.Laws.{keep-nothing, length-snoc}
 use Rattle.index.specs.Faces.{input, cellOf}
 use Rattle.index.proofs.Entries.{upFrom-split}
@@ -28,16 +28,17 @@ use Rattle.overfull.specs.Alike.{sameAs, alike, start, tallied, FaceOf}
 use Rattle.overfull.proofs.Members.{in-run}
 use Rattle.overfull.proofs.Counted.{first-count, first-second, earlier}
 
--- two tests that agree on the members
+-- of two tests that agree on the members, both find one that passes or neither does
 any-cong : (p q : ℕ → Bool) (l : List ℕ) → ((x : ℕ) → elem x l ≡ true → p x ≡ q x) → any p l ≡ any q l
 any-cong p q [] h = refl
 any-cong p q (x ∷ l) h = ap₂ (λ (a b : Bool). a || b) (h x (head-in x l)) (any-cong p q l (λ y e. h y (later-in x l y e)))
 
 module _ (l : Layout) (t : List ℕ) (f : Faced l t) (g : ℕ) (h : g < l .at .faces) where
-  -- the faces before g, and those behind it
+  -- the faces before g
   abbrev before : List ℕ
   before = upFrom 0 g
 
+  -- the faces behind it
   abbrev behind : List ℕ
   behind = upFrom (suc g) (l .at .faces - suc g)
 
@@ -45,22 +46,24 @@ module _ (l : Layout) (t : List ℕ) (f : Faced l t) (g : ℕ) (h : g < l .at .f
   abbrev next : List ℕ
   next = keep (sameAs l t g) behind
 
-  -- all faces
+  -- the numbers of all faces: before g, g, behind it
   numbers : upFrom 0 (l .at .faces) ≡ before ++ (g ∷ behind)
   numbers =
       let e : l .at .faces ≡ g + suc (l .at .faces - suc g) = omega (arith, h) in
       ap (upFrom 0) e ∙ upFrom-split 0 g (l .at .faces - suc g) ∙ ap (λ (k : ℕ). before ++ (k ∷ upFrom (suc k) (l .at .faces - suc g))) (zero-add g)
 
+  -- and so the faces
   whole : facesAt l t ≡ map (faceRow l t) before ++ (faceRow l t g ∷ map (faceRow l t) behind)
   unfolding facesAt
   whole = ap (map (faceRow l t)) numbers ∙ map-append (faceRow l t) before (g ∷ behind)
 
-  -- cut at g
+  -- the first g of them
   before-is : take g (facesAt l t) ≡ map (faceRow l t) before
   before-is =
       ap (take g) whole
       ∙ take-at (map (faceRow l t) before) (faceRow l t g ∷ map (faceRow l t) behind) g (length-map before (faceRow l t) ∙ length-upFrom 0 g)
 
+  -- and those from g + 1 on
   behind-is : drop (g + 1) (facesAt l t) ≡ map (faceRow l t) behind
   behind-is =
       let front : List Face = map (faceRow l t) before in
@@ -73,10 +76,11 @@ module _ (l : Layout) (t : List ℕ) (f : Faced l t) (g : ℕ) (h : g < l .at .f
   unfolding sameKey faceRow sameAs
   same-is x k = sym (ap₂ (λ (a b : List ℕ). eql a b) (f .keyed g h) (f .keyed x k))
 
-  -- a face of either side is one
+  -- a face before g is lower
   low-before : (x : ℕ) → elem x before ≡ true → x < g
   low-before x e = omega (arith, in-run x 0 g e)
 
+  -- one behind it is higher, and a face
   low-behind : (x : ℕ) → elem x behind ≡ true → (g ≤ x) × (x < l .at .faces)
   low-behind x e = omega (arith, in-run x (suc g) (l .at .faces - suc g) e, h)
 
@@ -85,11 +89,11 @@ module _ (l : Layout) (t : List ℕ) (f : Faced l t) (g : ℕ) (h : g < l .at .f
   unfolding overFace overAt
   over-is =
       let a : any (sameKey (faceRow l t g)) (take g (facesAt l t)) ≡ any (sameAs l t g) before =
-        ap (any (sameKey (faceRow l t g))) before-is ∙ any-map (sameKey (faceRow l t g)) (faceRow l t) before
-        ∙ any-cong (λ x. sameKey (faceRow l t g) (faceRow l t x)) (sameAs l t g) before (λ x e. same-is x (omega (arith, h, low-before x e))) in
+      ap (any (sameKey (faceRow l t g))) before-is ∙ any-map (sameKey (faceRow l t g)) (faceRow l t) before
+      ∙ any-cong (λ x. sameKey (faceRow l t g) (faceRow l t x)) (sameAs l t g) before (λ x e. same-is x (omega (arith, h, low-before x e))) in
       let b : keep (sameKey (faceRow l t g)) (drop (g + 1) (facesAt l t)) ≡ map (faceRow l t) next =
-        ap (keep (sameKey (faceRow l t g))) behind-is ∙ keep-map (sameKey (faceRow l t g)) (faceRow l t) behind
-        ∙ ap (map (faceRow l t)) (keep-cong (λ x. sameKey (faceRow l t g) (faceRow l t x)) (sameAs l t g) behind (λ x e. same-is x (low-behind x e .1))) in
+      ap (keep (sameKey (faceRow l t g))) behind-is ∙ keep-map (sameKey (faceRow l t g)) (faceRow l t) behind
+      ∙ ap (map (faceRow l t)) (keep-cong (λ x. sameKey (faceRow l t g) (faceRow l t x)) (sameAs l t g) behind (λ x e. same-is x (low-behind x e .1))) in
       ap₂ (λ (x : Bool) (r : List Face). onlyIf (not x) (overOf (faceRow l t g) r)) a b
 
   -- the faces with g's key: earlier ones, g, later ones
@@ -103,7 +107,7 @@ module _ (l : Layout) (t : List ℕ) (f : Faced l t) (g : ℕ) (h : g < l .at .f
   next-high : (x : ℕ) → elem x next ≡ true → g ≤ x
   next-high x e = low-behind x (and-parts (sameAs l t g x) (elem x behind) (sym (elem-keep x (sameAs l t g) behind) ∙ e) .1) .0
 
-  -- as many as there are from g on
+  -- with g they are at most all faces
   next-few : suc (length next) ≤ l .at .faces
   next-few = omega (arith, h, keep-length (sameAs l t g) behind, length-upFrom (suc g) (l .at .faces - suc g))
 
@@ -130,9 +134,11 @@ pub record Many (l : Layout) (t : List ℕ) (g : ℕ) (T : Tally) : Type 0 where
   pub few : T .count ≤ l .at .faces
 
 module _ (l : Layout) (t : List ℕ) (f : Faced l t) (g : ℕ) (h : g < l .at .faces) (T : Tally) (is : T ≡ tallied g (alike l t g) (start g)) where
+  -- a face has g's key
   abbrev q : ℕ → Bool
   q = sameAs l t g
 
+  -- the faces behind g with its key
   abbrev later : List ℕ
   later = next l t f g h
 

@@ -57,9 +57,9 @@ module _ (coords : List Float) (room n : ℕ) where
   many-kept l t g T m r centre f f' k e₁ e₂ e₃ e₄ e₅ e₆ e₇ one =
       let x : Finding = overfull (cellOf (l .at) t g) (cellOf (l .at) t (T .second)) g (T .count) (keyRow l t g) (m .owners) in
       let p : KeptPlain coords room n (x ∷ []) f f' k = λ tol.
-        one (plainRules coords tol) x
-        (fields-are r (cellOf (l .at) t g) (cellOf (l .at) t (T .second)) g (T .count) (keyRow l t g) (m .owners) e₁ e₂ e₃ e₄ e₅ e₆)
-        (centre-is coords tol (cellOf (l .at) t g) (cellOf (l .at) t (T .second)) g (T .count) (keyRow l t g) (m .owners) ∙ sym e₇) in
+      one (plainRules coords tol) x
+      (fields-are r (cellOf (l .at) t g) (cellOf (l .at) t (T .second)) g (T .count) (keyRow l t g) (m .owners) e₁ e₂ e₃ e₄ e₅ e₆)
+      (centre-is coords tol (cellOf (l .at) t g) (cellOf (l .at) t (T .second)) g (T .count) (keyRow l t g) (m .owners) ∙ sym e₇) in
       (λ tol. subst (λ (ys : List Finding). Kept (plainRules coords tol) room n ys f f' k) (sym (m .found)) (p tol), omega (arith, p zero64 .count))
 
   -- those of one face more

@@ -1,12 +1,11 @@
 -- The key of a face, read from the whole slice.
 use Prim.Native.Nat.{ℕ, _+_, _-_, _≤_, _<_}
-use mathlib.Core.Path.{_≡_, sym, ap, ap₂, _∙_, subst}
+use mathlib.Core.Path.{_≡_, sym, ap, ap₂, _∙_}
 use mathlib.Core.List.{List}
 use native.Mathlib.Omega.{arith}
 use lib.Dec.{leb}
 use lib.ListN.{length, getD}
 use lib.Ieee.{Float}
-use Rattle.laws.specs.Lists.{sort}
 use Rattle.laws.specs.Merging.{region}
 use Rattle.laws.proofs.Stores.{region-take}
 use Rattle.laws.proofs.Bounds.{below-at}
@@ -19,6 +18,7 @@ use Rattle.layout.specs.Tables.{ringRow, keyRow, Faced}
 use Rattle.layout.proofs.Reading.{tables-in}
 
 module _ (l : Layout) (w : List ℕ) (f : Faced l (input (l .at) w)) (g : ℕ) (h : g < l .at .faces) where
+  -- the tables
   abbrev t : List ℕ
   t = input (l .at) w
 

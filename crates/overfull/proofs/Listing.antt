@@ -1,5 +1,5 @@
 -- The list of a node of face g holds all faces with g's key.
-use Prim.Native.Nat.{ℕ, suc, _+_, _-_, _≤_, _<_, _^_}
+use Prim.Native.Nat.{ℕ, suc, _+_, _-_, _≤_, _<_}
 use mathlib.Core.Path.{_≡_, refl, sym, ap, ap₂, _∙_, subst}
 use mathlib.Core.Bool.{true}
 use mathlib.Core.List.{List}
@@ -42,6 +42,7 @@ module _ (l : Layout) (w : List ℕ) (s : Standing l w) (g : ℕ) (h : g < l .at
     low : v < l .at .nodes
     low = member-low (l .at) (base (l .at) w) (s .indexed) g h v e
 
+    -- the words of all node sets
     abbrev S : List ℕ
     S = wordsOf (l .at) (input (l .at) (base (l .at) w))
 

@@ -1,6 +1,6 @@
 -- Faces with the same key have the same nodes: all stand in the list of each node.
 use Prim.Native.Nat.{ℕ, _+_, _≤_, _<_}
-use mathlib.Core.Path.{_≡_, refl, sym, ap, ap₂, _∙_, subst}
+use mathlib.Core.Path.{_≡_, refl, sym, ap, _∙_}
 use mathlib.Core.Logic.{_⊎_, inl, inr}
 use mathlib.Core.Bool.{Bool, true, false, _||_, false≢true}
 use mathlib.Core.List.{List, [], _∷_, _++_}
@@ -8,7 +8,7 @@ use native.Mathlib.Omega.{arith}
 use borrow.Author.Tests.{leb-true, ltb-true}
 use lib.Dec.{leb, ltb, eqb}
 use lib.ListN.{length}
-use Rattle.laws.specs.Lists.{onlyIf, any, keep, upFrom, elem, insert, sort, distinct}
+use Rattle.laws.specs.Lists.{onlyIf, keep, upFrom, elem, insert, sort, distinct}
 use Rattle.laws.proofs.Tests.{tested, clash, and-parts, or-swap}
 use Rattle.laws.proofs.ListLaws.{eql-true}
 use Rattle.laws.proofs.Ascending.{elem-add, elem-upFrom, head-in, later-in}

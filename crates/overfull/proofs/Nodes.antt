@@ -1,6 +1,6 @@
 -- The nodes of a face, read one by one, and the list of one of them.
-use Prim.Native.Nat.{ℕ, suc, _+_, _-_, _≤_, _<_}
-use mathlib.Core.Path.{_≡_, sym, ap, ap₂, _∙_, subst}
+use Prim.Native.Nat.{ℕ, _+_, _<_}
+use mathlib.Core.Path.{_≡_, ap, _∙_}
 use mathlib.Core.Bool.{true}
 use mathlib.Core.List.{List}
 use native.Mathlib.Omega.{arith}
@@ -13,6 +13,7 @@ use Rattle.seek.proofs.Read.{read-node, node-low, set-fits}
 use Rattle.seek.proofs.Merging.{all-of}
 
 module _ (p : Places) (b : List ℕ) (ix : Indexed p b) (g : ℕ) (h : g < p .faces) where
+  -- the tables
   abbrev t : List ℕ
   t = input p b
 

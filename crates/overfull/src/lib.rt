@@ -12,10 +12,10 @@ ghost use Rattle.layout.specs.Tables.{keyRow, Faced, Standing};
 ghost use Rattle.layout.specs.ByCell.{overFace, overCell};
 ghost use Rattle.overfull.specs.Alike.{sameAs, alike, start, noted, tallied, Listed, FaceOf, KeptPlain};
 
-// How many faces with the same key are met, and which is the second; while there is none, the first face asked for.
-pub struct Tally {
-    pub count: usize,
-    pub second: usize,
+// How many faces with one key are met, and the second of them; before there is one, the face that is asked for.
+struct Tally {
+    count: usize,
+    second: usize,
 }
 
 // Faces g and h have the same key.
@@ -64,9 +64,15 @@ fn note(s: Tally, h: usize) -> Tally
 {
     let n = s.count + 1;
     if n == 2 {
-        return Tally { count: n, second: h };
+        return Tally {
+            count: n,
+            second: h,
+        };
     }
-    Tally { count: n, second: s.second }
+    Tally {
+        count: n,
+        second: s.second,
+    }
 }
 
 // Of the faces that stand from x to e those with g's key, counted; none where one comes before g.
@@ -75,13 +81,19 @@ fn walk(work: &[u32], l: layout::Layout, g: usize, x: usize, e: usize) -> Tally
     requires { ⌜ Listed l (now work) g x e ⌝ }
     ensures { λ r. ⌜ r ≡ tallied g (keep (sameAs l (input (l .at) (now (work .entry))) g) (rest x e (now (work .entry)))) (start g) ⌝ }
 {
-    let mut s = Tally { count: 0, second: g };
+    let mut s = Tally {
+        count: 0,
+        second: g,
+    };
     let mut i = x;
     while i < e {
         let h = counting::wide(work[i]);
         if same_key(work, l, g, h) {
             if h < g {
-                return Tally { count: 0, second: g };
+                return Tally {
+                    count: 0,
+                    second: g,
+                };
             }
             s = note(s, h);
             i += 1;

@@ -1,9 +1,9 @@
 -- `overfull::centre_of` meets its contract: the key stands in the slice.
-use Prim.Native.Nat.{ℕ, _+_, _-_, _≤_}
-use mathlib.Core.Path.{_≡_, sym, ap, _∙_, subst}
+use Prim.Native.Nat.{ℕ, _≤_}
+use mathlib.Core.Path.{sym, ap, _∙_, subst}
 use mathlib.Core.List.{List}
 use native.Mathlib.Omega.{arith}
-use lib.ListN.{length, take, drop}
+use lib.ListN.{length}
 use Rattle.geometry.specs.Points.{pointsOf, centreOf}
 use Rattle.geometry.specs.Steps.{InNodes}
 use Rattle.index.specs.Faces.{input}

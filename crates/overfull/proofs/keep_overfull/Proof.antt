@@ -60,8 +60,10 @@ keep-face-requires c κs =
     let o = c .before .before .loop in
     let t = c .before .loop-test .taken in (
       b .pre .0,
-      ((record { cell = b .pre .1 .0 .0; from = omega (arith, o .inv .0, c .before .before .before .first-face2 .ensures .0); before = omega (arith, t, c .before .before .before .before .first-face .ensures .0) }, b .pre .1 .0 .1),
-      (omega (arith, b .pre .1 .1 .0, o .inv .3), omega (arith, o .inv .2, o .inv .1, t, c .before .before .before .before .first-face .ensures .1, b .pre .0 .spaced .few-faces, b .pre .1 .1 .1))),
+      (
+        (record { cell = b .pre .1 .0 .0; from = omega (arith, o .inv .0, c .before .before .before .first-face2 .ensures .0); before = omega (arith, t, c .before .before .before .before .first-face .ensures .0) }, b .pre .1 .0 .1),
+        (omega (arith, b .pre .1 .1 .0, o .inv .3), omega (arith, o .inv .2, o .inv .1, t, c .before .before .before .before .first-face .ensures .1, b .pre .0 .spaced .few-faces, b .pre .1 .1 .1)),
+      ),
     )
 
 add-g : tie.Need-add-g Inv-loop μ-loop
