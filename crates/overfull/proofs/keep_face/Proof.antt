@@ -19,7 +19,7 @@ returns : tie.Need-returns
 returns c =
     let b = c .before .before .before .before .before .before in
     let a = b .args in
-    (none-kept (a .coords .now) (a .room) (a .n) (overFace (a .l) (input (a .l .at) (a .work .now)) (a .g)) (a .findings .now) (over-few (a .l) (input (a .l .at) (a .work .now)) (b .pre .0 .faced) (a .g) (face-in (a .l) (a .work .now) (b .pre .0 .faced) (a .c) (a .g) (b .pre .1 .0 .0)) (c .before .before .count-alike .result) (c .before .before .count-alike .ensures) (c .if1 .taken)), omega arith)
+    (none-kept (a .coords .now) (a .room) (a .n) (overFace (a .l) (input (a .l .at) (a .work .now)) (a .g)) (a .findings .now) (over-few (a .l) (input (a .l .at) (a .work .now)) (b .pre .0 .faced) (a .g) (face-in (a .l) (a .work .now) (b .pre .0 .faced) (a .c) (a .g) (b .pre .1 .0 .0)) (c .before .before .count-alike .result) (c .before .before .count-alike .ensures) (omega (arith, c .if1 .taken))), omega arith)
 
 narrow-requires : tie.Need-narrow-requires
 narrow-requires c κs =
