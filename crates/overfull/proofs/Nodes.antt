@@ -1,4 +1,4 @@
--- The nodes of a face, read one by one, and the list of one of them.
+-- The nodes of a face, read one by one.
 use Prim.Native.Nat.{ℕ, _+_, _<_}
 use mathlib.Core.Path.{_≡_, ap, _∙_}
 use mathlib.Core.Bool.{true}
