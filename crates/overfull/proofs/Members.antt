@@ -1,0 +1,84 @@
+-- Faces with the same key have the same nodes: all stand in the list of each node.
+use Prim.Native.Nat.{ℕ, _+_, _≤_, _<_}
+use mathlib.Core.Path.{_≡_, refl, sym, ap, _∙_}
+use mathlib.Core.Logic.{_⊎_, inl, inr}
+use mathlib.Core.Bool.{Bool, true, false, _||_, false≢true}
+use mathlib.Core.List.{List, [], _∷_, _++_}
+use native.Mathlib.Omega.{arith}
+use borrow.Author.Tests.{leb-true, ltb-true}
+use lib.Dec.{leb, ltb, eqb}
+use lib.ListN.{length}
+use Rattle.laws.specs.Lists.{onlyIf, keep, upFrom, elem, insert, sort, distinct}
+use Rattle.laws.proofs.Tests.{tested, clash, and-parts, or-swap}
+use Rattle.laws.proofs.ListLaws.{eql-true}
+use Rattle.laws.proofs.Ascending.{elem-add, elem-upFrom, head-in, later-in}
+use Rattle.mesh.specs.Rings.{nodeSet}
+use Rattle.index.specs.Faces.{nodesOf, facesWith}
+use Rattle.layout.specs.declared.Layout.{Layout}
+use Rattle.layout.specs.Tables.{ringRow, keyRow, Faced}
+use Rattle.overfull.specs.Alike.{sameAs, alike}
+
+-- a member of a list with x put in its place
+elem-insert : (n x : ℕ) (l : List ℕ) → elem n (insert leb x l) ≡ (eqb n x || elem n l)
+elem-insert n x [] = refl
+elem-insert n x (y ∷ l) = go (elem-insert n x l) (tested (leb x y))
+  where
+    go : elem n (insert leb x l) ≡ (eqb n x || elem n l) → (leb x y ≡ true) ⊎ (leb x y ≡ false) → elem n (insert leb x (y ∷ l)) ≡ (eqb n x || elem n (y ∷ l))
+    go ih (inl a) = rw a
+    go ih (inr a) = simp (a, ih) (or-swap (eqb n y) (eqb n x) (elem n l))
+
+-- a sorted list has the same members
+elem-sort : (n : ℕ) (l : List ℕ) → elem n (sort leb l) ≡ elem n l
+elem-sort n [] = refl
+elem-sort n (x ∷ l) = elem-insert n x (sort leb l) ∙ ap (λ (b : Bool). eqb n x || b) (elem-sort n l)
+
+-- and so has a node set
+elem-distinct : (n : ℕ) (l : List ℕ) → elem n (distinct leb l) ≡ elem n l
+elem-distinct n [] = refl
+elem-distinct n (x ∷ l) = elem-add n x (distinct leb l) ∙ ap (λ (b : Bool). eqb n x || b) (elem-distinct n l)
+
+-- a list with a member is not empty
+member-some : (x : ℕ) (l : List ℕ) → elem x l ≡ true → 0 < length l
+member-some x [] e = absurd (false≢true e)
+member-some x (y ∷ l) e = omega arith
+
+-- nor is a ring's node set
+set-some : (r : List ℕ) → 3 ≤ length r → 0 < length (nodeSet r)
+set-some [] h = absurd (omega (arith, h))
+set-some (x ∷ r) h = member-some x (nodeSet (x ∷ r)) (elem-distinct x (x ∷ r) ∙ head-in x r)
+
+-- a number in a run of numbers
+pub in-run : (x i n : ℕ) → elem x (upFrom i n) ≡ true → (i ≤ x) × (x < i + n)
+in-run x i n e = let p = and-parts (leb i x) (ltb x (i + n)) (sym (elem-upFrom x i n) ∙ e) in (leb-true i x (p .0), ltb-true x (i + n) (p .1))
+
+-- kept among those kept by a test that is weaker on the members
+keep-weaker : (p q : ℕ → Bool) (l : List ℕ) → ((x : ℕ) → elem x l ≡ true → p x ≡ true → q x ≡ true) → keep p (keep q l) ≡ keep p l
+keep-weaker p q [] h = refl
+keep-weaker p q (x ∷ l) h = go (keep-weaker p q l (λ y e. h y (later-in x l y e))) (tested (q x)) (tested (p x))
+  where
+    go : keep p (keep q l) ≡ keep p l → (q x ≡ true) ⊎ (q x ≡ false) → (p x ≡ true) ⊎ (p x ≡ false) → keep p (keep q (x ∷ l)) ≡ keep p (x ∷ l)
+    go ih (inl a) b = rw a (ap (λ (r : List ℕ). onlyIf (p x) (x ∷ []) ++ r) ih)
+    go ih (inr a) (inl b) = clash (h x (head-in x l) b) a
+    go ih (inr a) (inr b) = rw (a, b) ih
+
+module _ (l : Layout) (t : List ℕ) (f : Faced l t) (g : ℕ) (h : g < l .at .faces) where
+  -- a face has nodes
+  pub some-node : 0 < length (nodesOf (l .at) t g)
+  some-node = rw (f .noded g h) (set-some (ringRow l t g) (f .some g h))
+
+  -- a face's nodes are the words of its key
+  node-key : (v x : ℕ) → x < l .at .faces → elem v (nodesOf (l .at) t x) ≡ elem v (keyRow l t x)
+  node-key v x k =
+      ap (elem v) (f .noded x k) ∙ elem-distinct v (ringRow l t x) ∙ sym (elem-sort v (ringRow l t x)) ∙ ap (elem v) (sym (f .keyed x k))
+
+  -- a face with g's key has each node of g
+  shared-node : (v x : ℕ) → x < l .at .faces → elem v (nodesOf (l .at) t g) ≡ true → sameAs l t g x ≡ true → elem v (nodesOf (l .at) t x) ≡ true
+  unfolding sameAs
+  shared-node v x k e s = node-key v x k ∙ ap (elem v) (sym (eql-true (keyRow l t g) (keyRow l t x) s)) ∙ sym (node-key v g h) ∙ e
+
+  -- so the list of a node of g holds all faces with g's key
+  pub in-list : (v : ℕ) → elem v (nodesOf (l .at) t g) ≡ true → keep (sameAs l t g) (facesWith (l .at) t v) ≡ alike l t g
+  unfolding facesWith alike
+  in-list v e =
+      keep-weaker (sameAs l t g) (λ x. elem v (nodesOf (l .at) t x)) (upFrom 0 (l .at .faces))
+      (λ x m s. shared-node v x (omega (arith, in-run x 0 (l .at .faces) m)) e s)

@@ -1,0 +1,2 @@
+-- For internal contracts: faces with the same key.
+pub mod Alike
