@@ -6,3 +6,4 @@ pub mod Told
 pub mod Cleared
 pub mod Pairing
 pub mod Whole
+pub mod Left

@@ -33,7 +33,7 @@ each-nil [] = refl
 each-nil (x ∷ l) = each-nil l
 
 -- two functions that agree on a range
-each-range : {B : Type 0} (f g : ℕ → List B) (a n : ℕ) → ((i : ℕ) → a ≤ i → i < a + n → f i ≡ g i) → each f (upFrom a n) ≡ each g (upFrom a n)
+pub each-range : {B : Type 0} (f g : ℕ → List B) (a n : ℕ) → ((i : ℕ) → a ≤ i → i < a + n → f i ≡ g i) → each f (upFrom a n) ≡ each g (upFrom a n)
 each-range f g a zero h = refl
 each-range f g a (suc n) h = ap₂ (λ x y. x ++ y) (h a (omega arith) (omega arith)) (each-range f g (suc a) n (λ i p q. h i (omega (arith, p)) (omega (arith, q))))
 
@@ -100,10 +100,11 @@ module _ (R : Rules) (l : Layout) (t : List ℕ) (F : Faced l t) where
           let j : c + 1 + (b - (c + 1)) ≡ b = omega (arith, low) in
           let x = ap (firstOf l t) j in
           let k : b + 1 + (l .at .«cell_count» - (b + 1)) ≡ l .at .«cell_count» = omega (arith, top) in
-          let y = ap (firstOf l t) k ∙ F .first-last in
-          (omega (arith, to, first-mono l t F (b - (c + 1)) (c + 1) (omega (arith, j, top)), x, p),
-          omega (arith, q, first-mono l t F (l .at .«cell_count» - (b + 1)) (b + 1) (omega (arith, k)), y),
-          F .owned b g top p q)
+          let y = ap (firstOf l t) k ∙ F .first-last in (
+            omega (arith, to, first-mono l t F (b - (c + 1)) (c + 1) (omega (arith, j, top)), x, p),
+            omega (arith, q, first-mono l t F (l .at .«cell_count» - (b + 1)) (b + 1) (omega (arith, k)), y),
+            F .owned b g top p q,
+          )
 
       -- there the two tests agree
       agree : (g : ℕ) → firstOf l t b ≤ g → g < firstOf l t (b + 1) → sought g ≡ wanted g

@@ -114,7 +114,7 @@ pub more-from : (l : Layout) (t : List ℕ) (more : List (ℕ × ℕ)) (u w v : 
     → l .marks ≤ l .others → MarkedMore l t more w v q s → MarkedMore l t more u v q s
 more-from l t more u w v q s same h a hits p = a hits record {
   marks = λ b k. subst (λ (x : ℕ). MarkIs x (getD w (l .others + b) 0) (hitOf l t b hits)) (sym (same (l .marks + b) (omega arith)))
-  (subst (λ (x : ℕ). MarkIs (getD u (l .marks + b) 0) x (hitOf l t b hits)) (sym (same (l .others + b) (omega (arith, h)))) (p .marks b k));
+      (subst (λ (x : ℕ). MarkIs (getD u (l .marks + b) 0) x (hitOf l t b hits)) (sym (same (l .others + b) (omega (arith, h)))) (p .marks b k));
   within = λ b k z. p .within b k (λ e. z (same (l .marks + b) (omega arith) ∙ e));
 }
 

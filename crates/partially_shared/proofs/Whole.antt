@@ -5,6 +5,7 @@ use mathlib.Core.Logic.{_⊎_, inl, inr, _≢_}
 use mathlib.Core.Bool.{Bool, true, false, not, _&&_}
 use mathlib.Core.List.{List, [], _∷_, _++_, map, append-nil}
 use native.Mathlib.Omega.{arith}
+use native.Mathlib.Nat.{add-zero, zero-add}
 use borrow.Author.Tests.{ltb-true, eqb-true, eqb-false, ne-eqb, not-true}
 use lib.Dec.{leb, ltb, eqb}
 use lib.ListN.{length, getD}
@@ -21,7 +22,7 @@ use Rattle.layout.proofs.Owning.{first-mono, later-cell}
 use Rattle.partially_shared.specs.declared.Range.{Range}
 use Rattle.partially_shared.specs.Hits.{spansAt, passing, faceHits, cellHits, hitOf, MarkIs, Marked, MarksFit, toldBy, markTells}
 use Rattle.partially_shared.proofs.Cleared.{tells-none, tells-one}
-use Rattle.partially_shared.proofs.Pairing.{common-is, pairs-b}
+use Rattle.partially_shared.proofs.Pairing.{each-range, common-is, pairs-b}
 
 -- ---- what holds of all
 
@@ -73,6 +74,34 @@ all-passed P q a n h = all-each P (λ x. onlyIf (q x) (x ∷ [])) a n (λ i x y.
 map-all : {A B : Type 0} (P : A → Type 0) (f g : A → B) (l : List A) → ((x : A) → P x → f x ≡ g x) → All P l → map f l ≡ map g l
 map-all P f g [] h p = refl
 map-all P f g (x ∷ l) h p = ap₂ (λ a r. a ∷ r) (h x (p .0)) (map-all P f g l h (p .1))
+
+-- ---- ranges of numbers
+
+upFrom-add : (i m n : ℕ) → upFrom i (m + n) ≡ upFrom i m ++ upFrom (i + m) n
+upFrom-add i zero n = ap₂ (λ (a b : ℕ). upFrom a b) (sym (add-zero i)) (zero-add n)
+upFrom-add i (suc m) n =
+    let e : suc m + n ≡ suc (m + n) = omega arith in
+    let f : suc i + m ≡ i + suc m = omega arith in
+    ap (upFrom i) e ∙ ap (λ (r : List ℕ). i ∷ r) (upFrom-add (suc i) m n ∙ ap (λ (k : ℕ). upFrom (suc i) m ++ upFrom k n) f)
+
+module _ {B : Type 0} (h : ℕ → List B) where
+  each-none : (a n : ℕ) → ((i : ℕ) → a ≤ i → i < a + n → h i ≡ []) → each h (upFrom a n) ≡ []
+  each-none a zero p = refl
+  each-none a (suc n) p = ap₂ (λ x y. x ++ y) (p a (omega arith) (omega arith)) (each-none (suc a) n (λ i x y. p i (omega (arith, x)) (omega (arith, y))))
+
+  -- where there is something in a window only
+  each-window : (a n m : ℕ) → a + n ≤ m → ((i : ℕ) → i < m → (i < a) ⊎ (a + n ≤ i) → h i ≡ []) → each h (upFrom 0 m) ≡ each h (upFrom a n)
+  each-window a n m le p =
+      let e : m ≡ a + (n + (m - (a + n))) = omega (arith, le) in
+      ap (λ (k : ℕ). each h (upFrom 0 k)) e
+      ∙ ap (each h) (upFrom-add 0 a (n + (m - (a + n))))
+      ∙ each-append h (upFrom 0 a) (upFrom (0 + a) (n + (m - (a + n))))
+      ∙ ap (λ (r : List B). r ++ each h (upFrom (0 + a) (n + (m - (a + n))))) (each-none 0 a (λ i x y. p i (omega (arith, y, le)) (inl (omega (arith, y)))))
+      ∙ ap (λ (k : ℕ). each h (upFrom k (n + (m - (a + n))))) (zero-add a)
+      ∙ ap (each h) (upFrom-add a n (m - (a + n)))
+      ∙ each-append h (upFrom a n) (upFrom (a + n) (m - (a + n)))
+      ∙ ap (λ (r : List B). each h (upFrom a n) ++ r) (each-none (a + n) (m - (a + n)) (λ i x y. p i (omega (arith, y, le)) (inr x)))
+      ∙ append-nil (each h (upFrom a n))
 
 module _ (R : Rules) (l : Layout) (t : List ℕ) (F : Faced l t) (c : ℕ) (low : c < l .at .«cell_count») where
   -- a pair of faces, the second of a later cell
@@ -148,3 +177,38 @@ module _ (R : Rules) (l : Layout) (t : List ℕ) (F : Faced l t) (c : ℕ) (low 
             outside : (b < r .lo) ⊎ (r .hi ≤ b) → r .lo ≤ b → b < r .hi → ⊥
             outside (inl x) y z = omega (arith, x, y)
             outside (inr x) y z = omega (arith, x, z)
+
+    -- the marks of the range tell all of them
+    pub whole-told : r .hi ≤ l .at .«cell_count» → each (markTells l t w c) (upFrom (r .lo) (r .hi - r .lo)) ≡ partlyCell R l t c
+    unfolding partlyCell
+    whole-told top =
+        sym (ranged (split (r .hi) (r .lo)))
+        ∙ each-window (markTells l t w c) (c + 1) (l .at .«cell_count» - (c + 1)) (l .at .«cell_count») (omega (arith, low)) (λ i x o. early-told i (before i x o) x)
+        ∙ each-range (markTells l t w c) (pairCells R l t c) (c + 1) (l .at .«cell_count» - (c + 1)) (λ i x y. later-told i (omega (arith, x)) (omega (arith, y, low)))
+      where
+        before : (i : ℕ) → i < l .at .«cell_count» → (i < c + 1) ⊎ (c + 1 + (l .at .«cell_count» - (c + 1)) ≤ i) → i ≤ c
+        before i x (inl y) = omega (arith, y)
+        before i x (inr y) = absurd (omega (arith, x, y, low))
+
+        ranged : (r .hi < r .lo) ⊎ (r .lo ≤ r .hi) → each (markTells l t w c) (upFrom 0 (l .at .«cell_count»)) ≡ each (markTells l t w c) (upFrom (r .lo) (r .hi - r .lo))
+        ranged (inl x) =
+            let z : 0 ≡ r .hi - r .lo = omega (arith, x) in
+            each-none (markTells l t w c) 0 (l .at .«cell_count») (λ i p q. out-told i (omega (arith, q)) (either i (split i (r .lo))))
+            ∙ ap (λ (k : ℕ). each (markTells l t w c) (upFrom (r .lo) k)) z
+          where
+            either : (i : ℕ) → (i < r .lo) ⊎ (r .lo ≤ i) → (i < r .lo) ⊎ (r .hi ≤ i)
+            either i (inl y) = inl y
+            either i (inr y) = inr (omega (arith, y, x))
+        ranged (inr x) = each-window (markTells l t w c) (r .lo) (r .hi - r .lo) (l .at .«cell_count») (omega (arith, x, top)) (λ i p o. out-told i p (beyond i o))
+          where
+            beyond : (i : ℕ) → (i < r .lo) ⊎ (r .lo + (r .hi - r .lo) ≤ i) → (i < r .lo) ⊎ (r .hi ≤ i)
+            beyond i (inl y) = inl y
+            beyond i (inr y) = inr (omega (arith, y, x))
+
+    -- each mark tells faces
+    pub marks-fit : MarksFit l w
+    marks-fit b h z = go (hitOf l t b (cellHits R l t c)) (M .marks b h) (hit-later b)
+      where
+        go : (K : List (ℕ × ℕ)) → MarkIs (getD w (l .marks + b) 0) (getD w (l .others + b) 0) K → All Later K → (getD w (l .marks + b) 0 ≤ l .at .faces) × (getD w (l .others + b) 0 < l .at .faces)
+        go [] p q = absurd (z p)
+        go (k ∷ K) p q = (omega (arith, p .0, q .0 .0), omega (arith, p .1, q .0 .1))

@@ -29,9 +29,10 @@ returns c =
     let b = c .before .before .before .before .before .before in
     let a = b .args in
     let w = a .work .now in
-    let none = tells-none (a .l) (input (a .l .at) w) w (a .c) (a .b) (c .if1 .taken) in
-    (λ tol. subst (λ (xs : List Finding). Kept (plainRules (a .coords .now) tol) (a .room) (a .n) xs (a .findings .now) (a .findings .now) (a .n)) (sym none) (kept-none (plainRules (a .coords .now) tol) (a .room) (a .n) (a .findings .now)),
-    (set-none w (a .l .marks + a .b) (c .if1 .taken), omega arith))
+    let none = tells-none (a .l) (input (a .l .at) w) w (a .c) (a .b) (c .if1 .taken) in (
+      λ tol. subst (λ (xs : List Finding). Kept (plainRules (a .coords .now) tol) (a .room) (a .n) xs (a .findings .now) (a .findings .now) (a .n)) (sym none) (kept-none (plainRules (a .coords .now) tol) (a .room) (a .n) (a .findings .now)),
+      (set-none w (a .l .marks + a .b) (c .if1 .taken), omega arith),
+    )
 
 keep-pair-requires : tie.Need-keep-pair-requires
 keep-pair-requires c κs =
@@ -59,9 +60,10 @@ returns-2 c =
     let w = a .work .now in
     let y = c .before .before .keep-pair in
     let one = tells-one (a .l) (input (a .l .at) w) w (a .c) (a .b) (c .before .before .before .before .before .if1 .left) in
-    let k : y .result ≡ a .n + 1 = y .ensures zero64 .count in
-    (λ tol. subst (λ (xs : List Finding). Kept (plainRules (a .coords .now) tol) (a .room) (a .n) xs (a .findings .now) (y .last .1 .1 .1 .1 .1 .0) (y .result)) (sym one) (y .ensures tol),
-    (refl, omega (arith, k)))
+    let k : y .result ≡ a .n + 1 = y .ensures zero64 .count in (
+      λ tol. subst (λ (xs : List Finding). Kept (plainRules (a .coords .now) tol) (a .room) (a .n) xs (a .findings .now) (y .last .1 .1 .1 .1 .1 .0) (y .result)) (sym one) (y .ensures tol),
+      (refl, omega (arith, k)),
+    )
 
 pub keep-marked-spec : {M : Type 1} → statement M
 keep-marked-spec =

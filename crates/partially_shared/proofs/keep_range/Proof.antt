@@ -25,15 +25,19 @@ loop-holds : tie.Need-loop-holds Inv-loop μ-loop
 loop-holds c =
     let b = c .before .before .before in
     let a = b .args in
-    let w = a .work .now in
-    (record {
-      clearing = clearing-start (a .l) w (a .r .lo);
-      kept = keeps-start (a .coords .now) (a .room) (a .n) (markTells (a .l) (input (a .l .at) w) w (a .c)) (a .r .lo) (a .findings .now);
-      search = b .pre .0;
-      few = omega arith;
-      from = omega arith;
-      long = refl;
-    }, omega arith, omega arith, omega arith)
+    let w = a .work .now in (
+      record {
+        clearing = clearing-start (a .l) w (a .r .lo);
+        kept = keeps-start (a .coords .now) (a .room) (a .n) (markTells (a .l) (input (a .l .at) w) w (a .c)) (a .r .lo) (a .findings .now);
+        search = b .pre .0;
+        few = omega arith;
+        from = omega arith;
+        long = refl;
+      },
+      omega arith,
+      omega arith,
+      omega arith,
+    )
 
 keep-marked-requires : tie.Need-keep-marked-requires Inv-loop μ-loop
 keep-marked-requires c κs =
@@ -79,10 +83,13 @@ returns c =
     let o = c .before .loop in
     let w = a .work .now in
     let done : o .b - a .r .lo ≡ a .r .hi - a .r .lo = omega (arith, o .inv .3, c .loop-test .left) in
-    let p = o .inv .0 in
-    (λ tol. subst (λ (k : ℕ). Kept (plainRules (a .coords .now) tol) (a .room) (a .n) (each (markTells (a .l) (input (a .l .at) w) w (a .c)) (upFrom (a .r .lo) k)) (a .findings .now) (o .findings) (o .k)) done (p .kept tol),
-    (record { beside = p .clearing .beside; cleared = λ i h k j. p .clearing .cleared i h k (omega (arith, j, c .loop-test .left)); still = p .clearing .still },
-    omega (arith, p .few, done, b .pre .1 .0 .1, b .pre .0 .spaced .few-cells)))
+    let p = o .inv .0 in (
+      λ tol. subst (λ (k : ℕ). Kept (plainRules (a .coords .now) tol) (a .room) (a .n) (each (markTells (a .l) (input (a .l .at) w) w (a .c)) (upFrom (a .r .lo) k)) (a .findings .now) (o .findings) (o .k)) done (p .kept tol),
+      (
+        record { beside = p .clearing .beside; cleared = λ i h k j. p .clearing .cleared i h k (omega (arith, j, c .loop-test .left)); still = p .clearing .still },
+        omega (arith, p .few, done, b .pre .1 .0 .1, b .pre .0 .spaced .few-cells),
+      ),
+    )
 
 pub keep-range-spec : {M : Type 1} → statement M
 keep-range-spec =
