@@ -1,0 +1,3 @@
+-- What the tables tell of each cell, and of all, is what the definitions of the findings say.
+pub mod Parts
+pub mod Same
