@@ -2,10 +2,9 @@
 use Prim.Native.Nat.{ℕ, zero, suc, _+_, _-_, _≤_, _<_}
 use mathlib.Core.Path.{_≡_, refl, sym, ap, ap₂, _∙_}
 use mathlib.Core.List.{List, [], _∷_, _++_, map, append-assoc, append-nil}
-use native.Mathlib.Numerals.{add-one}
 use native.Mathlib.Omega.{arith}
 use lib.ListN.{length, getD, take, drop, length-drop, take-append-drop}
-use lib.Seq.{length-take-le, take-append-seam, drop-append-seam, getD-append-seam}
+use lib.Seq.{length-take-le, take-append-seam, drop-append-add, getD-append-seam}
 use Rattle.laws.specs.Lists.{each, walk, upFrom}
 use Rattle.laws.proofs.ListLaws.{walk-each}
 use Rattle.findings.proofs.Laws.{length-snoc}
@@ -26,10 +25,11 @@ module _ {ℓ} {B : Type ℓ} where
 -- ---- the part b of a list that has a before it and z after
 
 module _ {ℓ} {A : Type ℓ} where
-  -- the element behind xs, and what is left behind it
-  seam-next : (xs : List A) (x : A) (ys : List A) → drop (length xs + 1) (xs ++ (x ∷ ys)) ≡ ys
-  seam-next [] x ys = refl
-  seam-next (y ∷ xs) x ys = ap (λ (n : ℕ). drop n (y ∷ (xs ++ (x ∷ ys)))) (add-one (suc (length xs))) ∙ ap (λ (n : ℕ). drop n (xs ++ (x ∷ ys))) (sym (add-one (length xs))) ∙ seam-next xs x ys
+  -- the part, element by element, from the places of its elements in the whole
+  pub map-part : (a b z : List A) (d : A) → map (λ g. getD (a ++ (b ++ z)) g d) (upFrom (length a) (length b)) ≡ b
+  map-part a [] z d = refl
+  map-part a (x ∷ b) z d =
+      ap₂ (λ (y : A) (ys : List A). y ∷ ys) (getD-append-seam a x (b ++ z) d) (rw (append-assoc a (x ∷ []) (b ++ z), length-snoc a x) at (map-part (a ++ (x ∷ [])) b z d))
 
 module _ {ℓ κ} {A : Type ℓ} {B : Type κ} where
   -- a walk through the part is one over the places of its elements in the whole
@@ -39,7 +39,7 @@ module _ {ℓ κ} {A : Type ℓ} {B : Type κ} where
   walk-part h a (x ∷ b) z d =
       let W = a ++ (x ∷ (b ++ z)) in
       let here : h a x (b ++ z) ≡ h (take (length a) W) (getD W (length a) d) (drop (length a + 1) W) =
-      rw (take-append-seam a (x ∷ (b ++ z)), getD-append-seam a x (b ++ z) d, seam-next a x (b ++ z)) in
+      rw (take-append-seam a (x ∷ (b ++ z)), getD-append-seam a x (b ++ z) d, drop-append-add a (x ∷ (b ++ z)) 1) in
       ap₂ (λ (r s : List B). r ++ s) here (rw (append-assoc a (x ∷ []) (b ++ z), length-snoc a x) at (walk-part h (a ++ (x ∷ [])) b z d))
 
   -- a walk through a whole list
@@ -48,6 +48,8 @@ module _ {ℓ κ} {A : Type ℓ} {B : Type κ} where
       let ends : walk h [] l ≡ walk (λ p x q. h p x (q ++ [])) [] l = simp append-nil in
       ends ∙ (rw (append-nil l) at (walk-part h [] l [] d))
 
-  -- the part's elements, by their places in the whole
-  pub each-part : (f : A → List B) (a b z : List A) (d : A) → each f b ≡ each (λ g. f (getD (a ++ (b ++ z)) g d)) (upFrom (length a) (length b))
-  each-part f a b z d = sym (walk-each f a b) ∙ walk-part (λ p x q. f x) a b z d
+  -- what is left of a list from place k on, by the places of its elements
+  pub each-drop : (f : A → List B) (l : List A) (k : ℕ) (d : A) → k ≤ length l → each f (drop k l) ≡ each (λ g. f (getD l g d)) (upFrom k (length l - k))
+  each-drop f l k d h =
+      sym (walk-each f (take k l) (drop k l))
+      ∙ (rw (append-nil (drop k l), take-append-drop k l, length-take-le k l h, length-drop k l) at (walk-part (λ p x q. f x) (take k l) (drop k l) [] d))
