@@ -3,7 +3,7 @@ use Prim.Native.Nat.{ℕ, _+_, _<_}
 use mathlib.Core.Path.{_≡_, sym, ap, _∙_}
 use mathlib.Core.List.{List, []}
 use native.Mathlib.Omega.{arith}
-use lib.ListN.{length, getD, take, drop}
+use lib.ListN.{getD, take, drop}
 use Rattle.laws.specs.Lists.{each, walk, upFrom}
 use Rattle.mesh.specs.Model.{Model, cellsOf}
 use Rattle.mesh.specs.Rings.{Cell}

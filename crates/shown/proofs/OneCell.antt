@@ -1,5 +1,5 @@
 -- What the tables tell of one cell, kind by kind, is what the definitions say of it.
-use Prim.Native.Nat.{ℕ, zero, suc, _+_, _-_, _≤_, _<_}
+use Prim.Native.Nat.{ℕ, _+_, _-_, _<_}
 use mathlib.Core.Path.{_≡_, sym, ap, ap₂, _∙_}
 use mathlib.Core.Bool.{Bool, not, _&&_}
 use mathlib.Core.List.{List, [], _∷_, _++_, map}
@@ -7,13 +7,11 @@ use native.Mathlib.Nat.{zero-add}
 use native.Mathlib.Omega.{arith}
 use lib.ListN.{length, getD, take, drop, length-append, length-map, List·getD-map}
 use Rattle.laws.specs.Lists.{onlyIf, first, each, upFrom}
-use Rattle.laws.specs.Merging.{region}
 use Rattle.laws.proofs.ListLaws.{length-upFrom, getD-upFrom}
 use Rattle.mesh.specs.Model.{Model, Raw, cellsOf}
 use Rattle.mesh.specs.Rings.{Cell, Face, ringsOf, facesOf, faces}
-use Rattle.mesh.specs.Acceptance.{facesIn}
 use Rattle.snap.specs.Weld.{weldedBy}
-use Rattle.findings.specs.Findings.{Rules, Finding, bowtie, repeated, overAt, meeting, partlyOf, pairAt, kind1, kind2, kind3, kind4}
+use Rattle.findings.specs.Findings.{bowtie, repeated, overAt, meeting, partlyOf, pairAt, kind1, kind2, kind3, kind4}
 use Rattle.findings.specs.Rules.{repeatsOf, rulesWith, rulesOf, cellsIn}
 use Rattle.findings.specs.Compared.{none}
 use Rattle.index.specs.Faces.{bowOf}
@@ -37,13 +35,15 @@ module _ (l : Layout) (t : List ℕ) where
       ap (faceRow l t) (sym (getD-upFrom 0 (l .at .faces) g 0 h ∙ zero-add g)) ∙ sym (List·getD-map (faceRow l t) (upFrom 0 (l .at .faces)) g 0)
 
 module _ (m : Model) (l : Layout) (t : List ℕ) (S : Shows m l t) (d : Cell) where
-  -- the faces of the cells before cell c, its own, those of the cells after it
+  -- the faces of the cells before cell c
   abbrev before : ℕ → List Face
   before c = faces ringsOf (take c (cellsIn m))
 
+  -- its own faces
   abbrev own : ℕ → List Face
   own c = facesOf ringsOf (getD (cellsIn m) c d)
 
+  -- the faces of the cells after it
   abbrev after : ℕ → List Face
   after c = faces ringsOf (drop (c + 1) (cellsIn m))
 
@@ -65,8 +65,8 @@ module _ (m : Model) (l : Layout) (t : List ℕ) (S : Shows m l t) (d : Cell) wh
     around = S .faces ∙ faces-around m c d in-model
 
     -- a face of c is a face
-    low : (g : ℕ) → g < length (before c) + length (own c) → g < l .at .faces
-    low g o =
+    face-in : (g : ℕ) → g < length (before c) + length (own c) → g < l .at .faces
+    face-in g o =
         omega (arith, o, faces-long l t, ap length around, length-append (before c) (own c ++ after c), length-append (own c) (after c))
 
     -- the faces that the tables give c are its own
@@ -75,7 +75,7 @@ module _ (m : Model) (l : Layout) (t : List ℕ) (S : Shows m l t) (d : Cell) wh
     faces-shown =
         ap₂ (λ (i n : ℕ). map (faceRow l t) (upFrom i n)) first-is size-is
         ∙ map-agree (faceRow l t) (λ g. getD (before c ++ (own c ++ after c)) g (faceRow l t 0)) (length (before c)) (length (own c))
-        (λ g a b. face-at l t g (low g b) ∙ ap (λ (fs : List Face). getD fs g (faceRow l t 0)) around)
+        (λ g a b. face-at l t g (face-in g b) ∙ ap (λ (fs : List Face). getD fs g (faceRow l t 0)) around)
         ∙ map-part (before c) (own c) (after c) (faceRow l t 0)
 
     -- whether c is a bow-tie
@@ -95,7 +95,7 @@ module _ (m : Model) (l : Layout) (t : List ℕ) (S : Shows m l t) (d : Cell) wh
         let e = faceRow l t 0 in
         ap₂ (λ (i n : ℕ). each (overFace l t) (upFrom i n)) first-is size-is
         ∙ each-agree (overFace l t) (λ g. overAt (take g W) (getD W g e) (drop (g + 1) W)) (length (before c)) (length (own c))
-        (λ g a b. ap (λ (f : Face). overAt (take g (facesAt l t)) f (drop (g + 1) (facesAt l t))) (face-at l t g (low g b))
+        (λ g a b. ap (λ (f : Face). overAt (take g (facesAt l t)) f (drop (g + 1) (facesAt l t))) (face-at l t g (face-in g b))
         ∙ ap (λ (fs : List Face). overAt (take g fs) (getD fs g e) (drop (g + 1) fs)) around)
         ∙ sym (walk-part overAt (before c) (own c) (after c) e)
 
