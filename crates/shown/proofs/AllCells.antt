@@ -22,7 +22,7 @@ abbrev past : Cell
 past = record { num = 0; from = 0; raw = none }
 
 module _ (m : Model) (l : Layout) (t : List ℕ) (S : Shows m l t) where
-  -- what is so of each cell is so of all
+  -- lists that agree cell by cell agree for all cells
   summed : (f : ℕ → List Finding) (h : List Cell → Cell → List Cell → List Finding)
       → ((c : ℕ) → c < l .at .«cell_count» → f c ≡ h (take c (cellsIn m)) (getD (cellsIn m) c past) (drop (c + 1) (cellsIn m)))
       → each f (upFrom 0 (l .at .«cell_count»)) ≡ walk h [] (cellsIn m)
@@ -32,18 +32,18 @@ module _ (m : Model) (l : Layout) (t : List ℕ) (S : Shows m l t) where
       ∙ ap (λ (n : ℕ). each g (upFrom 0 n)) (S .cells ∙ sym (cells-long m))
       ∙ sym (walk-places h (cellsIn m) past)
 
-  -- kind 1, bow-ties
+  -- bow-ties: the tables of all cells tell what kind 1 lists
   pub bows-shown : each (bowCell l t) (upFrom 0 (l .at .«cell_count»)) ≡ walk (kind1 (rulesOf m)) [] (cellsIn m)
   bows-shown = summed (bowCell l t) (kind1 (rulesOf m)) (bow-cell m l t S past)
 
-  -- kind 2, overfull faces
+  -- overfull faces: the tables of all cells tell what kind 2 lists
   pub overs-shown : each (overCell l t) (upFrom 0 (l .at .«cell_count»)) ≡ walk (kind2 (rulesOf m)) [] (cellsIn m)
   overs-shown = summed (overCell l t) (kind2 (rulesOf m)) (over-cell m l t S past)
 
-  -- kind 3, partly shared pairs
+  -- partly shared pairs: the tables of all cells tell what kind 3 lists
   pub partly-shown : each (partlyCell (plainRules (m .coords) (m .tolerance)) l t) (upFrom 0 (l .at .«cell_count»)) ≡ walk (kind3 (rulesOf m)) [] (cellsIn m)
   partly-shown = summed (partlyCell (plainRules (m .coords) (m .tolerance)) l t) (kind3 (rulesOf m)) (partly-cell m l t S past)
 
-  -- kind 4, repeated nodes
+  -- repeated nodes: the tables of all cells tell what kind 4 lists
   pub repeats-shown : each (λ c. repeatCell l t c (getD (cellsOf m) c none .words)) (upFrom 0 (l .at .«cell_count»)) ≡ walk (kind4 (rulesOf m)) [] (cellsIn m)
   repeats-shown = summed (λ c. repeatCell l t c (getD (cellsOf m) c none .words)) (kind4 (rulesOf m)) (repeat-cell m l t S past)

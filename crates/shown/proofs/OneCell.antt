@@ -78,16 +78,16 @@ module _ (m : Model) (l : Layout) (t : List ℕ) (S : Shows m l t) (d : Cell) wh
         (λ g a b. face-at l t g (face-in g b) ∙ ap (λ (fs : List Face). getD fs g (faceRow l t 0)) around)
         ∙ map-part (before c) (own c) (after c) (faceRow l t 0)
 
-    -- whether c is a bow-tie
+    -- the tables mark c a bow-tie where the rules do
     bow-shown : bowOf (l .at) t c ≡ rulesOf m .bow (getD (cellsIn m) c d .raw)
     bow-shown = S .bows c in-model ∙ ap (rulesOf m .bow) (sym (raw-in m c d in-model))
 
-    -- kind 1 of cell c
+    -- kind 1 of cell c: the tables tell what the definition says
     pub bow-cell : bowCell l t c ≡ kind1 (rulesOf m) (take c (cellsIn m)) (getD (cellsIn m) c d) (drop (c + 1) (cellsIn m))
     unfolding bowCell kind1
     bow-cell = ap₂ (λ (b : Bool) (n : ℕ). onlyIf b (bowtie n ∷ [])) bow-shown (sym (num-in m c d in-model))
 
-    -- kind 2 of cell c
+    -- kind 2 of cell c: the tables tell what the definition says
     pub over-cell : overCell l t c ≡ kind2 (rulesOf m) (take c (cellsIn m)) (getD (cellsIn m) c d) (drop (c + 1) (cellsIn m))
     unfolding overCell overFace kind2 rulesOf rulesWith
     over-cell =
@@ -99,14 +99,14 @@ module _ (m : Model) (l : Layout) (t : List ℕ) (S : Shows m l t) (d : Cell) wh
         ∙ ap (λ (fs : List Face). overAt (take g fs) (getD fs g e) (drop (g + 1) fs)) around)
         ∙ sym (walk-part overAt (before c) (own c) (after c) e)
 
-    -- kind 4 of cell c
+    -- kind 4 of cell c: the tables tell what the definition says
     pub repeat-cell : repeatCell l t c (getD (cellsOf m) c none .words) ≡ kind4 (rulesOf m) (take c (cellsIn m)) (getD (cellsIn m) c d) (drop (c + 1) (cellsIn m))
     unfolding repeatCell kind4 rulesOf rulesWith
     repeat-cell =
         ap (λ (ws : List ℕ). map (λ (p : ℕ × ℕ). repeated c (p .0) (p .1)) (repeatsOf (weldedBy ws) (getD (cellsOf m) c none .words))) (S .welds)
         ∙ ap₂ (λ (n : ℕ) (r : Raw). map (λ (p : ℕ × ℕ). repeated n (p .0) (p .1)) (rulesOf m .repeats r)) (sym (num-in m c d in-model)) (sym (raw-in m c d in-model))
 
-  -- the pair of two cells
+  -- the pair of two cells: the tables tell what the definition says
   pair-shown : (c b : ℕ) → c < l .at .«cell_count» → b < l .at .«cell_count»
       → pairCells (plainRules (m .coords) (m .tolerance)) l t c b ≡ pairAt (rulesOf m) (getD (cellsIn m) c d) (getD (cellsIn m) b d)
   unfolding pairCells pairAt partlyOf meeting rulesOf rulesWith
@@ -119,7 +119,7 @@ module _ (m : Model) (l : Layout) (t : List ℕ) (S : Shows m l t) (d : Cell) wh
       ∙ ap₂ (λ (fs gs : List Face). onlyIf (not x && not y) (map (pairFound c b) (first (meeting R fs gs)))) (faces-shown c h) (faces-shown b k)
       ∙ ap₂ (λ (i j : ℕ). onlyIf (not x && not y) (map (pairFound i j) (first (meeting R (own c) (own b))))) (sym (num-in m c d (in-model c h))) (sym (num-in m b d (in-model b k)))
 
-  -- kind 3 of cell c
+  -- kind 3 of cell c: the tables tell what the definition says
   pub partly-cell : (c : ℕ) → c < l .at .«cell_count»
       → partlyCell (plainRules (m .coords) (m .tolerance)) l t c ≡ kind3 (rulesOf m) (take c (cellsIn m)) (getD (cellsIn m) c d) (drop (c + 1) (cellsIn m))
   unfolding partlyCell kind3

@@ -42,7 +42,7 @@ module _ {ℓ κ} {A : Type ℓ} {B : Type κ} where
       rw (take-append-seam a (x ∷ (b ++ z)), getD-append-seam a x (b ++ z) d, drop-append-add a (x ∷ (b ++ z)) 1) in
       ap₂ (λ (r s : List B). r ++ s) here (rw (append-assoc a (x ∷ []) (b ++ z), length-snoc a x) at (walk-part h (a ++ (x ∷ [])) b z d))
 
-  -- a walk through a whole list
+  -- a walk through a whole list is one over the places of its elements
   pub walk-places : (h : List A → A → List A → List B) (l : List A) (d : A) → walk h [] l ≡ each (λ g. h (take g l) (getD l g d) (drop (g + 1) l)) (upFrom 0 (length l))
   walk-places h l d =
       let ends : walk h [] l ≡ walk (λ p x q. h p x (q ++ [])) [] l = simp append-nil in
