@@ -2,3 +2,4 @@
 pub mod Tables
 pub mod ByCell
 pub mod Shown
+pub mod Kept

@@ -23,7 +23,7 @@ use Rattle.layout.specs.declared.Layout.{Layout}
 use Rattle.layout.specs.Tables.{keyRow}
 use Rattle.layout.specs.ByCell.{plainRules, overFace}
 use Rattle.overfull.specs.declared.Tally.{Tally}
-use Rattle.overfull.specs.Alike.{KeptPlain}
+use Rattle.layout.specs.Kept.{KeptAny}
 use Rattle.overfull.proofs.Found.{Many}
 
 -- a record's fields are those of an overfull face
@@ -46,17 +46,17 @@ each-grown F a g h =
 
 module _ (coords : List Float) (room n : ℕ) where
   -- no finding, nothing kept
-  pub none-kept : (xs : List Finding) (f : List ℕ) → xs ≡ [] → KeptPlain coords room n xs f f n
+  pub none-kept : (xs : List Finding) (f : List ℕ) → xs ≡ [] → KeptAny coords room n xs f f n
   none-kept xs f e tol = subst (λ (ys : List Finding). Kept (plainRules coords tol) room n ys f f n) (sym e) (kept-none (plainRules coords tol) room n f)
 
   -- the record of an overfull face kept
   pub many-kept : (l : Layout) (t : List ℕ) (g : ℕ) (T : Tally) → Many l t g T → (r : Record) (centre : Point) (f f' : List ℕ) (k : ℕ)
       → r .kind ≡ 2 → r .first ≡ cellOf (l .at) t g → r .second ≡ cellOf (l .at) t (T .second) → r .a ≡ g → r .b ≡ 0 → r .count ≡ T .count
       → centre ≡ centreOf (pointsOf coords (keyRow l t g)) → KeptOne room n r centre f f' k
-      → KeptPlain coords room n (overFace l t g) f f' k × (k ≤ n + 1)
+      → KeptAny coords room n (overFace l t g) f f' k × (k ≤ n + 1)
   many-kept l t g T m r centre f f' k e₁ e₂ e₃ e₄ e₅ e₆ e₇ one =
       let x : Finding = overfull (cellOf (l .at) t g) (cellOf (l .at) t (T .second)) g (T .count) (keyRow l t g) (m .owners) in
-      let p : KeptPlain coords room n (x ∷ []) f f' k = λ tol.
+      let p : KeptAny coords room n (x ∷ []) f f' k = λ tol.
       one (plainRules coords tol) x
       (fields-are r (cellOf (l .at) t g) (cellOf (l .at) t (T .second)) g (T .count) (keyRow l t g) (m .owners) e₁ e₂ e₃ e₄ e₅ e₆)
       (centre-is coords tol (cellOf (l .at) t g) (cellOf (l .at) t (T .second)) g (T .count) (keyRow l t g) (m .owners) ∙ sym e₇) in
@@ -64,15 +64,15 @@ module _ (coords : List Float) (room n : ℕ) where
 
   -- those of one face more
   pub grown-kept : (F : ℕ → List Finding) (a g : ℕ) (f₀ f f' : List ℕ) (k r : ℕ) → a ≤ g
-      → KeptPlain coords room n (each F (upFrom a (g - a))) f₀ f k → KeptPlain coords room k (F g) f f' r → KeptPlain coords room n (each F (upFrom a (g + 1 - a))) f₀ f' r
+      → KeptAny coords room n (each F (upFrom a (g - a))) f₀ f k → KeptAny coords room k (F g) f f' r → KeptAny coords room n (each F (upFrom a (g + 1 - a))) f₀ f' r
   grown-kept F a g f₀ f f' k r h p q tol =
       subst (λ (ys : List Finding). Kept (plainRules coords tol) room n ys f₀ f' r) (each-grown F a g h)
       (kept-then (plainRules coords tol) room n (each F (upFrom a (g - a))) (F g) f₀ f f' k r (p tol) (q tol))
 
   -- the same list under another name
-  pub kept-as : {xs ys : List Finding} {f f' : List ℕ} {k : ℕ} → xs ≡ ys → KeptPlain coords room n xs f f' k → KeptPlain coords room n ys f f' k
-  kept-as {f = f} {f' = f'} {k = k} e p = subst (λ (zs : List Finding). KeptPlain coords room n zs f f' k) e p
+  pub kept-as : {xs ys : List Finding} {f f' : List ℕ} {k : ℕ} → xs ≡ ys → KeptAny coords room n xs f f' k → KeptAny coords room n ys f f' k
+  kept-as {f = f} {f' = f'} {k = k} e p = subst (λ (zs : List Finding). KeptAny coords room n zs f f' k) e p
 
   -- and the slice keeps its length
-  pub kept-long : {xs : List Finding} {f f' : List ℕ} {k : ℕ} → KeptPlain coords room n xs f f' k → length f' ≡ length f
+  pub kept-long : {xs : List Finding} {f f' : List ℕ} {k : ℕ} → KeptAny coords room n xs f f' k → length f' ≡ length f
   kept-long p = ap length (p zero64 .bytes) ∙ simp length-sets

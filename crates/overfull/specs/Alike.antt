@@ -47,7 +47,3 @@ pub record FaceOf (l : Layout) (t : List ℕ) (c g : ℕ) : Type 0 where
   pub cell : c < l .at .«cell_count»
   pub from : firstOf l t c ≤ g
   pub before : g < firstOf l t (c + 1)
-
--- findings kept, whatever the tolerance: no record of theirs depends on it
-abbrev pub KeptPlain : List Float → ℕ → ℕ → List Finding → List ℕ → List ℕ → ℕ → Type 0
-KeptPlain coords room n xs f f' k = (tol : Float) → Kept (plainRules coords tol) room n xs f f' k

@@ -10,7 +10,8 @@ ghost use Rattle.index.specs.Faces.{input, nodesOf, Indexed};
 ghost use Rattle.merge.specs.Runs.{rest};
 ghost use Rattle.layout.specs.Tables.{keyRow, Faced, Standing};
 ghost use Rattle.layout.specs.ByCell.{overFace, overCell};
-ghost use Rattle.overfull.specs.Alike.{sameAs, alike, start, noted, tallied, Listed, FaceOf, KeptPlain};
+ghost use Rattle.overfull.specs.Alike.{sameAs, alike, start, noted, tallied, Listed, FaceOf};
+ghost use Rattle.layout.specs.Kept.{KeptAny};
 
 // How many faces with one key are met, and the second of them; before there is one, the face that is asked for.
 struct Tally {
@@ -145,7 +146,7 @@ fn keep_face(
     requires { ⌜ Standing l (now work) ⌝ }
     requires { ⌜ FaceOf l (input (l .at) (now work)) c g × (l .at .nodes ≡ nodeCount (now coords)) ⌝ }
     requires { ⌜ (64 * room ≤ length (now findings)) × (n + 1 ≤ 2 ^ 57) ⌝ }
-    ensures { λ r. ⌜ KeptPlain (now (coords .entry)) room n (overFace l (input (l .at) (now (work .entry))) g) (now (findings .entry)) (now (findings .exit)) r ⌝ }
+    ensures { λ r. ⌜ KeptAny (now (coords .entry)) room n (overFace l (input (l .at) (now (work .entry))) g) (now (findings .entry)) (now (findings .exit)) r ⌝ }
     ensures { λ r. ⌜ r ≤ n + 1 ⌝ }
 {
     let s = count_alike(work, l, g);
@@ -177,7 +178,7 @@ pub fn keep_overfull(
     requires { ⌜ Standing l (now work) ⌝ }
     requires { ⌜ (c < l .at .«cell_count») × (l .at .nodes ≡ nodeCount (now coords)) ⌝ }
     requires { ⌜ (64 * room ≤ length (now findings)) × (n ≤ 2 ^ 56) ⌝ }
-    ensures { λ r. ⌜ KeptPlain (now (coords .entry)) room n (overCell l (input (l .at) (now (work .entry))) c) (now (findings .entry)) (now (findings .exit)) r ⌝ }
+    ensures { λ r. ⌜ KeptAny (now (coords .entry)) room n (overCell l (input (l .at) (now (work .entry))) c) (now (findings .entry)) (now (findings .exit)) r ⌝ }
     ensures { λ r. ⌜ r ≤ n + 2 ^ 18 ⌝ }
 {
     let e = layout::first_face(work, l, c + 1);

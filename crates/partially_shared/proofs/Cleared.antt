@@ -22,8 +22,9 @@ use Rattle.records.proofs.Keeping.{kept-none, kept-then}
 use Rattle.layout.specs.declared.Layout.{Layout}
 use Rattle.layout.specs.Tables.{Spaced}
 use Rattle.layout.specs.ByCell.{plainRules}
+use Rattle.layout.specs.Kept.{KeptAny}
 use Rattle.partially_shared.specs.declared.Range.{Range}
-use Rattle.partially_shared.specs.Hits.{Marked, Beside, toldBy, markTells, KeptAny, Cleared, Searching}
+use Rattle.partially_shared.specs.Hits.{Marked, Beside, toldBy, markTells, Cleared, Searching}
 use Rattle.partially_shared.proofs.Searched.{beside-less, beside-then, searching-on, input-on}
 
 -- ---- one cell

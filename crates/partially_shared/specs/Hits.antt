@@ -6,15 +6,12 @@ use mathlib.Core.List.{List, [], _∷_, _++_, map}
 use mathlib.Core.Path.{_≡_}
 use lib.Dec.{eqb}
 use lib.ListN.{length, getD, take, drop}
-use lib.Ieee.{Float}
 use Rattle.laws.specs.Lists.{onlyIf, first, each, keep, upFrom}
 use Rattle.findings.specs.Findings.{Rules, Finding, partly}
 use Rattle.index.specs.Faces.{input, base, cellOf, nodesOf, Indexed}
 use Rattle.seek.specs.Candidates.{common, candidates}
-use Rattle.records.specs.Keeping.{Kept}
 use Rattle.layout.specs.declared.Layout.{Layout}
 use Rattle.layout.specs.Tables.{firstOf, Faced, Spaced}
-use Rattle.layout.specs.ByCell.{plainRules}
 use Rattle.partially_shared.specs.declared.Range.{Range}
 
 -- the common nodes of faces f and g pass the area test
@@ -75,10 +72,6 @@ toldBy l t c b m o = partly c b (m - 1) o (common (nodesOf (l .at) t (m - 1)) (n
 unfoldable pub markTells : Layout → List ℕ → List ℕ → ℕ → ℕ → List Finding
 markTells l t w c b =
     onlyIf (not (eqb (getD w (l .marks + b) 0) 0)) (toldBy l t c b (getD w (l .marks + b) 0) (getD w (l .others + b) 0) ∷ [])
-
--- kept, whatever the tolerance: no record depends on it
-abbrev pub KeptAny : List Float → ℕ → ℕ → List Finding → List ℕ → List ℕ → ℕ → Type 0
-KeptAny c room n xs f f' k = (tol : Float) → Kept (plainRules c tol) room n xs f f' k
 
 -- a mark of cell b, where there is one, tells faces
 abbrev pub MarkFits : Layout → List ℕ → ℕ → Type 0

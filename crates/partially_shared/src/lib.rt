@@ -11,8 +11,9 @@ ghost use Rattle.index.specs.Faces.{input};
 ghost use Rattle.seek.specs.Candidates.{candidates};
 ghost use Rattle.records.specs.Keeping.{Kept};
 ghost use Rattle.layout.specs.Tables.{Spaced, Standing, Still};
+ghost use Rattle.layout.specs.Kept.{KeptAny};
 ghost use Rattle.layout.specs.ByCell.{plainRules, partlyCell};
-ghost use Rattle.partially_shared.specs.Hits.{passing, faceHits, cellHits, Marked, MarkedMore, Higher, Searching, Beside, toldBy, markTells, KeptAny, MarkFits, MarksFit, Cleared};
+ghost use Rattle.partially_shared.specs.Hits.{passing, faceHits, cellHits, Marked, MarkedMore, Higher, Searching, Beside, toldBy, markTells, MarkFits, MarksFit, Cleared};
 
 // The cells from lo on, before hi.
 pub struct Range {

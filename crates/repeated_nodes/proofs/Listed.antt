@@ -13,7 +13,8 @@ use Rattle.pair_sort.specs.Pairs.{pairsAt}
 use Rattle.pair_sort.proofs.PairLaws.{pairs-add}
 use Rattle.records.proofs.Keeping.{kept-then}
 use Rattle.layout.specs.ByCell.{plainRules}
-use Rattle.repeated_nodes.specs.Kept.{ofCell, KeptAny}
+use Rattle.repeated_nodes.specs.OfCell.{ofCell}
+use Rattle.layout.specs.Kept.{KeptAny}
 
 -- a word of a region whose words are nodes
 pub word-below : (n o k i : ℕ) (w : List ℕ) → o + k ≤ length w → AllBelow n (region o k w) → i < k → getD w (o + i) 0 < n

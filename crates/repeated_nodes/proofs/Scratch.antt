@@ -19,7 +19,7 @@ use Rattle.layout.specs.declared.Layout.{Layout}
 use Rattle.layout.specs.Tables.{Standing, Still}
 use Rattle.layout.specs.ByCell.{repeatCell}
 use Rattle.layout.proofs.Again.{still}
-use Rattle.repeated_nodes.specs.Kept.{ofCell}
+use Rattle.repeated_nodes.specs.OfCell.{ofCell}
 use Rattle.repeated_nodes.proofs.Nodes.{repeats-below}
 
 -- the regions of the layout that the listing uses

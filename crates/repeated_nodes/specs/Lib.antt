@@ -1,2 +1,2 @@
--- Findings kept, whatever the tolerance.
-pub mod Kept
+-- The finding of repeated nodes.
+pub mod OfCell

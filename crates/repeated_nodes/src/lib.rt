@@ -11,7 +11,8 @@ ghost use Rattle.findings.specs.Findings.{repeated};
 ghost use Rattle.index.specs.Faces.{input};
 ghost use Rattle.layout.specs.Tables.{Standing, Still};
 ghost use Rattle.layout.specs.ByCell.{repeatCell};
-ghost use Rattle.repeated_nodes.specs.Kept.{ofCell, KeptAny};
+ghost use Rattle.repeated_nodes.specs.OfCell.{ofCell};
+ghost use Rattle.layout.specs.Kept.{KeptAny};
 
 // The finding of nodes a and b of cell c.
 fn keep_nodes(

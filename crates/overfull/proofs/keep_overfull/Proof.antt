@@ -8,7 +8,7 @@ use Rattle.laws.specs.Lists.{each, upFrom}
 use Rattle.index.specs.Faces.{input}
 use Rattle.layout.specs.Tables.{firstOf}
 use Rattle.layout.specs.ByCell.{overFace, overCell}
-use Rattle.overfull.specs.Alike.{KeptPlain}
+use Rattle.layout.specs.Kept.{KeptAny}
 use Rattle.overfull.proofs.Keeping.{none-kept, grown-kept, kept-as, kept-long}
 use Rattle.overfull.proofs.keep_overfull.Statement.{statement}
 use Rattle.overfull.proofs.keep_overfull.Tie as tie
@@ -16,7 +16,7 @@ use Rattle.overfull.proofs.keep_overfull.Tie as tie
 abbrev Inv-loop : tie.InvT-loop
 Inv-loop coords work l c findings₀ room n e n₀ g₀ findings n' g =
     (g₀ ≤ g) × (g ≤ e) × (n' ≤ n + (g - g₀)) × (length findings ≡ length findings₀)
-    × KeptPlain coords room n (each (overFace l (input (l .at) work)) (upFrom g₀ (g - g₀))) findings₀ findings n'
+    × KeptAny coords room n (each (overFace l (input (l .at) work)) (upFrom g₀ (g - g₀))) findings₀ findings n'
 
 abbrev μ-loop : tie.MeasureT-loop
 μ-loop coords work l c findings₀ room n e n₀ g₀ findings n' g = e - g

@@ -9,7 +9,8 @@ use native.Mathlib.Omega.{arith}
 use Rattle.pair_sort.specs.Pairs.{pairsAt}
 use Rattle.records.proofs.Keeping.{kept-none}
 use Rattle.layout.specs.ByCell.{plainRules}
-use Rattle.repeated_nodes.specs.Kept.{ofCell, KeptAny}
+use Rattle.repeated_nodes.specs.OfCell.{ofCell}
+use Rattle.layout.specs.Kept.{KeptAny}
 use Rattle.repeated_nodes.proofs.Listed.{word-below, kept-next}
 use Rattle.repeated_nodes.proofs.keep_pairs.Statement.{statement}
 use Rattle.repeated_nodes.proofs.keep_pairs.Tie as tie

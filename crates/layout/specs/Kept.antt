@@ -1,14 +1,10 @@
--- For internal contracts: the findings of repeated nodes, kept.
+-- For internal contracts: findings kept, whatever the tolerance.
 use Prim.Native.Nat.{ℕ}
 use mathlib.Core.List.{List}
 use lib.Ieee.{Float}
-use Rattle.findings.specs.Findings.{Finding, repeated}
+use Rattle.findings.specs.Findings.{Finding}
 use Rattle.records.specs.Keeping.{Kept}
 use Rattle.layout.specs.ByCell.{plainRules}
-
--- the finding of two nodes of cell c
-abbrev pub ofCell : ℕ → ℕ × ℕ → Finding
-ofCell c p = repeated c (p .0) (p .1)
 
 -- kept, whatever the tolerance: no record depends on it
 abbrev pub KeptAny : List Float → ℕ → ℕ → List Finding → List ℕ → List ℕ → ℕ → Type 0
