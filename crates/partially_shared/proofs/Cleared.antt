@@ -13,12 +13,11 @@ use lib.Ieee.{Float}
 use Rattle.laws.specs.Lists.{onlyIf, each, upFrom}
 use Rattle.laws.specs.Merging.{region}
 use Rattle.laws.proofs.Tests.{tested, split}
-use Rattle.laws.proofs.ListLaws.{each-append, upFrom-snoc}
 use Rattle.laws.proofs.Stores.{getD-region, length-region}
 use Rattle.findings.specs.Findings.{Finding}
 use Rattle.index.specs.Faces.{input}
 use Rattle.records.specs.Keeping.{Kept}
-use Rattle.records.proofs.Keeping.{kept-none, kept-then}
+use Rattle.records.proofs.Keeping.{kept-none, kept-next}
 use Rattle.layout.specs.declared.Layout.{Layout}
 use Rattle.layout.specs.Tables.{Spaced}
 use Rattle.layout.specs.ByCell.{plainRules}
@@ -115,12 +114,10 @@ keeps-start c room n h a f tol = let z : 0 ≡ a - a = omega arith in subst (λ 
 pub keeps-next : (c : List Float) (room n k j : ℕ) (h : ℕ → List Finding) (xs : List Finding) (a b : ℕ) (f g e : List ℕ) → a ≤ b → xs ≡ h b → KeptAny c room n (each h (upFrom a (b - a))) f g k → KeptAny c room k xs g e j
     → KeptAny c room n (each h (upFrom a (b + 1 - a))) f e j
 keeps-next c room n k j h xs a b f g e le is p q tol =
-    let z : b + 1 - a ≡ suc (b - a) = omega (arith, le) in
-    let y : a + (b - a) ≡ b = omega (arith, le) in
-    let grows : each h (upFrom a (b + 1 - a)) ≡ each h (upFrom a (b - a)) ++ xs =
-    ap (λ (i : ℕ). each h (upFrom a i)) z ∙ ap (each h) (upFrom-snoc a (b - a)) ∙ each-append h (upFrom a (b - a)) ((a + (b - a)) ∷ [])
-    ∙ ap (λ (i : ℕ). each h (upFrom a (b - a)) ++ (h i ++ [])) y ∙ ap (λ (l : List Finding). each h (upFrom a (b - a)) ++ l) (append-nil (h b) ∙ sym is) in
-    subst (λ (l : List Finding). Kept (plainRules c tol) room n l f e j) (sym grows) (kept-then (plainRules c tol) room n (each h (upFrom a (b - a))) xs f g e k j (p tol) (q tol))
+    let z : b - a + 1 ≡ b + 1 - a = omega (arith, le) in
+    let y : b ≡ a + (b - a) = omega (arith, le) in
+    subst (λ (i : ℕ). Kept (plainRules c tol) room n (each h (upFrom a i)) f e j) z
+    (kept-next (plainRules c tol) room n k j h xs a (b - a) f g e (is ∙ ap h y) (p tol) (q tol))
 
 -- the cells before b are told
 pub record Telling (c : List Float) (room n : ℕ) (l : Layout) (t w : List ℕ) (i a : ℕ) (f v g : List ℕ) (k b : ℕ) : Type 0 where

@@ -6,8 +6,8 @@ use mathlib.Core.List.{List, [], _∷_, _++_, append-nil}
 use native.Mathlib.Omega.{arith}
 use lib.ListN.{length, take, length-append}
 use lib.Seq.{sets, take-all, take-nil, take-append-le, take-append-add}
-use Rattle.laws.specs.Lists.{each}
-use Rattle.laws.proofs.ListLaws.{each-append, each-ext}
+use Rattle.laws.specs.Lists.{each, upFrom}
+use Rattle.laws.proofs.ListLaws.{each-append, each-ext, upFrom-snoc}
 use Rattle.laws.proofs.Stores.{sets-append}
 use Rattle.laws.proofs.Tests.{split}
 use Rattle.geometry.specs.declared.Point.{Point}
@@ -68,3 +68,12 @@ module _ (R : Rules) (room n : ℕ) where
 -- rules that give the same records keep the same
 pub kept-by : (R S : Rules) (room n : ℕ) (xs : List Finding) (f f' : List ℕ) (k : ℕ) → ((x : Finding) → recordOf R x ≡ recordOf S x) → Kept R room n xs f f' k → Kept S room n xs f f' k
 kept-by R S room n xs f f' k e p = record { count = p .count; bytes = p .bytes ∙ ap (sets f (64 * n)) (each-ext e (take (room - n) xs)) }
+
+-- the findings of the numbers from a on, one number more
+pub kept-next : (R : Rules) (room n k j : ℕ) (h : ℕ → List Finding) (xs : List Finding) (a i : ℕ) (f g e : List ℕ) → xs ≡ h (a + i) → Kept R room n (each h (upFrom a i)) f g k → Kept R room k xs g e j
+    → Kept R room n (each h (upFrom a (i + 1))) f e j
+kept-next R room n k j h xs a i f g e is p q =
+    let z : i + 1 ≡ suc i = omega arith in
+    let grows : each h (upFrom a (i + 1)) ≡ each h (upFrom a i) ++ xs =
+    ap (λ (m : ℕ). each h (upFrom a m)) z ∙ ap (each h) (upFrom-snoc a i) ∙ each-append h (upFrom a i) ((a + i) ∷ []) ∙ ap (λ (l : List Finding). each h (upFrom a i) ++ l) (append-nil (h (a + i)) ∙ sym is) in
+    subst (λ (l : List Finding). Kept R room n l f e j) (sym grows) (kept-then R room n (each h (upFrom a i)) xs f g e k j p q)

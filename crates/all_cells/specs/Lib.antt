@@ -1,0 +1,2 @@
+-- For internal contracts: the cells of a model.
+pub mod Cells
