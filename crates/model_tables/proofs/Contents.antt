@@ -1,0 +1,36 @@
+-- The tables that must stand: what they hold, by the cells.
+use Prim.Native.Nat.{ℕ}
+use mathlib.Core.Bool.{Bool}
+use mathlib.Core.List.{List, map}
+use lib.Dec.{leb}
+use lib.Ieee.{Float}
+use Rattle.laws.specs.Lists.{each, sort}
+use Rattle.mesh.specs.Model.{Raw}
+use Rattle.mesh.specs.Rings.{ringsOf, nodeSet}
+use Rattle.snap.specs.Weld.{weldedBy, weldedAll}
+use Rattle.findings.specs.Rules.{bowOf}
+use Rattle.layout.specs.declared.Layout.{Layout}
+use Rattle.layout.specs.Tables.{startsOf}
+use Rattle.layout.specs.ByCell.{bit}
+use Rattle.tables.specs.Owners.{ownersFrom}
+use Rattle.tables.proofs.Shown.{joined}
+use Rattle.model_tables.proofs.Reading.{Holds}
+
+-- some ring of a cell, in welded numbers, meets itself
+abbrev pub meets : List Float → Float → Raw → Bool
+meets coords tol c = bowOf coords tol (weldedBy (weldedAll coords tol)) c
+
+-- the welded map, the rings, where they start, and the first face of each cell
+pub record RingTables (coords : List Float) (tol : Float) (cells : List Raw) (l : Layout) (t : List ℕ) : Type 0 where
+  pub welds : Holds t (l .weld) (weldedAll coords tol)
+  pub rings : Holds t (l .rings) (joined (each ringsOf cells))
+  pub rows : Holds t (l .rows) (startsOf 0 (each ringsOf cells))
+  pub firsts : Holds t (l .firsts) (startsOf 0 (map ringsOf cells))
+
+-- the marks of bow-ties, the cells of faces, the keys, the starts of node sets, and these
+pub record FaceTables (coords : List Float) (tol : Float) (cells : List Raw) (l : Layout) (t : List ℕ) : Type 0 where
+  pub bows : Holds t (l .at .bows) (map (λ c. bit (meets coords tol c)) cells)
+  pub owners : Holds t (l .at .cells) (ownersFrom 0 cells)
+  pub keys : Holds t (l .keys) (each (sort leb) (each ringsOf cells))
+  pub starts : Holds t (l .at .starts) (startsOf 0 (map nodeSet (each ringsOf cells)))
+  pub sets : Holds t (l .at .sets) (joined (map nodeSet (each ringsOf cells)))

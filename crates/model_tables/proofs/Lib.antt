@@ -1,0 +1,6 @@
+-- Laws of the tables of a model.
+pub mod Sizes
+pub mod Welds
+pub mod Reading
+pub mod Nodes
+pub mod Contents
