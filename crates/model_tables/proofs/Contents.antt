@@ -4,9 +4,13 @@ use mathlib.Core.Bool.{Bool}
 use mathlib.Core.List.{List, map}
 use lib.Dec.{leb}
 use lib.Ieee.{Float}
+use lib.ListN.{length}
 use Rattle.laws.specs.Lists.{each, sort}
+use Rattle.laws.specs.Merging.{AllBelow}
+use Rattle.geometry.specs.Coordinates.{nodeCount}
 use Rattle.mesh.specs.Model.{Raw}
 use Rattle.mesh.specs.Rings.{ringsOf, nodeSet}
+use Rattle.mesh.specs.Steps.{ringTotal, WellCells}
 use Rattle.snap.specs.Weld.{weldedBy, weldedAll}
 use Rattle.findings.specs.Rules.{bowOf}
 use Rattle.layout.specs.declared.Layout.{Layout}
@@ -14,11 +18,18 @@ use Rattle.layout.specs.Tables.{startsOf}
 use Rattle.layout.specs.ByCell.{bit}
 use Rattle.tables.specs.Owners.{ownersFrom}
 use Rattle.tables.proofs.Shown.{joined}
+use Rattle.model_tables.specs.Planned.{Planned}
 use Rattle.model_tables.proofs.Reading.{Holds}
 
 -- some ring of a cell, in welded numbers, meets itself
 abbrev pub meets : List Float → Float → Raw → Bool
 meets coords tol c = bowOf coords tol (weldedBy (weldedAll coords tol)) c
+
+-- cells that are right, with so many nodes, M words and K words of node sets, and the places of their tables
+pub record Settled (coords : List Float) (cells : List Raw) (M K : ℕ) (l : Layout) : Type 0 where
+  pub well : WellCells cells
+  pub below : AllBelow (nodeCount coords) (joined (each ringsOf cells))
+  pub planned : Planned (ringTotal (each ringsOf cells)) (length (each ringsOf cells)) (length cells) (nodeCount coords) M K l
 
 -- the welded map, the rings, where they start, and the first face of each cell
 pub record RingTables (coords : List Float) (tol : Float) (cells : List Raw) (l : Layout) (t : List ℕ) : Type 0 where
@@ -31,6 +42,6 @@ pub record RingTables (coords : List Float) (tol : Float) (cells : List Raw) (l 
 pub record FaceTables (coords : List Float) (tol : Float) (cells : List Raw) (l : Layout) (t : List ℕ) : Type 0 where
   pub bows : Holds t (l .at .bows) (map (λ c. bit (meets coords tol c)) cells)
   pub owners : Holds t (l .at .cells) (ownersFrom 0 cells)
-  pub keys : Holds t (l .keys) (each (sort leb) (each ringsOf cells))
+  pub keys : Holds t (l .keys) (joined (map (sort leb) (each ringsOf cells)))
   pub starts : Holds t (l .at .starts) (startsOf 0 (map nodeSet (each ringsOf cells)))
   pub sets : Holds t (l .at .sets) (joined (map nodeSet (each ringsOf cells)))

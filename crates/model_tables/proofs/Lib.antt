@@ -4,3 +4,6 @@ pub mod Welds
 pub mod Reading
 pub mod Nodes
 pub mod Contents
+pub mod Ringing
+pub mod Facing
+pub mod Stages

@@ -47,12 +47,11 @@ module _ (l : Layout) (w v : List ℕ) (p : Ringed l (take (l .at .bows) w) × (
 
   -- the node sets put behind them are those of the tables before
   pub sets-stand : (r : ℕ) (u : List ℕ)
-      → (r ≡ length (each (λ s. s) (setsFrom l (take (l .at .bows) v) 0 (l .at .faces)))) × (r ≤ l .total) × (u ≡ sets (sets v (l .at .starts) (startsOf 0 (setsFrom l (take (l .at .bows) v) 0 (l .at .faces)))) (l .at .sets) (each (λ s. s) (setsFrom l (take (l .at .bows) v) 0 (l .at .faces))))
-      → (r ≡ length (each (λ s. s) (setsFrom l t 0 (l .at .faces)))) × (r ≤ l .total) × (u ≡ sets (sets (sets w (l .keys) keys) (l .at .starts) (startsOf 0 (setsFrom l t 0 (l .at .faces)))) (l .at .sets) (each (λ s. s) (setsFrom l t 0 (l .at .faces))))
+      → (r ≡ length (each (λ s. s) (setsFrom l (take (l .at .bows) v) 0 (l .at .faces)))) × (u ≡ sets (sets v (l .at .starts) (startsOf 0 (setsFrom l (take (l .at .bows) v) 0 (l .at .faces)))) (l .at .sets) (each (λ s. s) (setsFrom l (take (l .at .bows) v) 0 (l .at .faces))))
+      → (r ≡ length (each (λ s. s) (setsFrom l t 0 (l .at .faces)))) × (u ≡ sets (sets (sets w (l .keys) keys) (l .at .starts) (startsOf 0 (setsFrom l t 0 (l .at .faces)))) (l .at .sets) (each (λ s. s) (setsFrom l t 0 (l .at .faces))))
   sets-stand r u e = (
     e .0 ∙ ap (λ (x : List ℕ). length (each (λ s. s) (setsFrom l x 0 (l .at .faces)))) same,
-    e .1,
-    e .2
+    e .1
     ∙ ap (λ (x : List ℕ). sets (sets v (l .at .starts) (startsOf 0 (setsFrom l x 0 (l .at .faces)))) (l .at .sets) (each (λ s. s) (setsFrom l x 0 (l .at .faces)))) same
     ∙ ap (λ (x : List ℕ). sets (sets x (l .at .starts) (startsOf 0 (setsFrom l t 0 (l .at .faces)))) (l .at .sets) (each (λ s. s) (setsFrom l t 0 (l .at .faces)))) put,
   )

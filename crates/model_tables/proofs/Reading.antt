@@ -10,7 +10,7 @@ use lib.ListN.{length, getD, take, length-append, List·getD-append}
 use lib.Seq.{sets, getD-append-add}
 use Rattle.laws.specs.Lists.{any, each, upFrom}
 use Rattle.laws.specs.Merging.{region}
-use Rattle.laws.proofs.ListLaws.{each-map, any-map}
+use Rattle.laws.proofs.ListLaws.{any-map}
 use Rattle.laws.proofs.Stores.{region-before, region-same, region-take, length-region}
 
 -- ---- lists in a slice
@@ -52,11 +52,6 @@ module _ {A B : Type 0} where
       (map-upFrom f k d xs (suc o) (λ j l. ap f (suc-add o j ∙ sym (add-suc o j)) ∙ h (suc j) (omega arith)))
 
 module _ {A : Type 0} where
-  -- lists made of numbers, one after the other
-  pub each-upFrom : {B : Type 0} (f : ℕ → List B) (k : A → List B) (d : A) (xs : List A) → ((j : ℕ) → j < length xs → f (0 + j) ≡ k (getD xs j d)) → each f (upFrom 0 (length xs)) ≡ each k xs
-  each-upFrom f k d xs h =
-      sym (each-map (λ r. r) f (upFrom 0 (length xs))) ∙ ap (each (λ r. r)) (map-upFrom f k d xs 0 h) ∙ each-map (λ r. r) k xs
-
   -- a test of numbers
   pub any-upFrom : (f : ℕ → Bool) (k : A → Bool) (d : A) (xs : List A) (o : ℕ) → ((j : ℕ) → j < length xs → f (o + j) ≡ k (getD xs j d)) → any f (upFrom o (length xs)) ≡ any k xs
   any-upFrom f k d xs o h = sym (any-map (λ b. b) f (upFrom o (length xs))) ∙ ap (any (λ b. b)) (map-upFrom f k d xs o h) ∙ any-map (λ b. b) k xs

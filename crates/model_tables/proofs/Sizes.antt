@@ -1,20 +1,21 @@
 -- The rings of an accepted model's cells: each has 3 to 64 words, and each word is a node.
 use Prim.Native.Nat.{ℕ, zero, suc, _+_, _*_, _≤_, _<_}
-use mathlib.Core.Path.{_≡_, sym, subst}
+use mathlib.Core.Path.{_≡_, refl, sym, subst}
 use mathlib.Core.Logic.{_⊎_, inl, inr}
 use mathlib.Core.Bool.{Bool, true, false}
-use mathlib.Core.List.{List, [], _∷_, _++_}
+use mathlib.Core.List.{List, [], _∷_, _++_, map}
 use native.Mathlib.Omega.{arith}
 use borrow.Author.Tests.{eqb-true, eqb-false, leb-true, ltb-false}
 use lib.Dec.{leb, eqb}
 use lib.ListN.{length, getD, length-append}
 use Rattle.laws.specs.Limits.{ringLimit}
-use Rattle.laws.specs.Lists.{any, each, keep, add, distinct}
+use Rattle.laws.specs.Lists.{any, each, keep, sort, add}
 use Rattle.laws.specs.Merging.{AllBelow}
 use Rattle.laws.proofs.Bounds.{below-append, below-left, below-right}
+use Rattle.laws.proofs.Sorting.{length-sort}
 use Rattle.laws.proofs.Tests.{tested, or-none}
 use Rattle.mesh.specs.Model.{Raw}
-use Rattle.mesh.specs.Rings.{runs, phedRings, ringsOf, nodeSet}
+use Rattle.mesh.specs.Rings.{runs, ringsOf, nodeSet}
 use Rattle.mesh.specs.Acceptance.{countWrong}
 use Rattle.mesh.specs.Steps.{ringTotal, tooLong, cellWith, WellCell, WellCells}
 use Rattle.mesh.proofs.ByKind.{tet-is, hex-is, wedge-is, phed-is}
@@ -127,3 +128,27 @@ length-add x (y ∷ l) = go (tested (leb x y)) (tested (leb y x)) (length-add x 
 pub length-set-of : (r : List ℕ) → length (nodeSet r) ≤ length r
 length-set-of [] = omega arith
 length-set-of (x ∷ r) = omega (arith, length-add x (nodeSet r), length-set-of r)
+
+-- all node sets have at most as many words as all rings
+pub sets-total : (rs : List (List ℕ)) → ringTotal (map nodeSet rs) ≤ ringTotal rs
+sets-total [] = omega arith
+sets-total (r ∷ rs) =
+    omega (
+      arith,
+      sets-total rs,
+      length-set-of r,
+      length-append (nodeSet r) (each (λ (l : List ℕ). l) (map nodeSet rs)),
+      length-append r (each (λ (l : List ℕ). l) rs),
+    )
+
+-- all keys have as many words as all rings
+pub keys-total : (rs : List (List ℕ)) → ringTotal (map (sort leb) rs) ≡ ringTotal rs
+keys-total [] = refl
+keys-total (r ∷ rs) =
+    omega (
+      arith,
+      keys-total rs,
+      length-sort leb r,
+      length-append (sort leb r) (each (λ (l : List ℕ). l) (map (sort leb) rs)),
+      length-append r (each (λ (l : List ℕ). l) rs),
+    )

@@ -126,7 +126,7 @@ fn put_marks(
 // The keys and node sets of all faces; answers how many words the sets have.
 fn put_nodes(work: &mut [u32], l: Layout) -> usize
     requires { ⌜ Ringed l (take (l .at .bows) (now work)) × (l .at .bows ≤ l .keys) × (l .keys + l .total ≤ l .at .starts) × (l .at .starts + (l .at .faces + 1) ≤ l .at .sets) × (l .at .sets + l .total ≤ length (now work)) × (l .total < 2 ^ 32) ⌝ }
-    ensures { λ r. ⌜ (r ≡ length (each (λ s. s) (setsFrom l (take (l .at .bows) (now (work .entry))) 0 (l .at .faces)))) × (r ≤ l .total) × (now (work .exit) ≡ sets (sets (sets (now (work .entry)) (l .keys) (keysOf l (take (l .at .bows) (now (work .entry))) (l .at .faces))) (l .at .starts) (startsOf 0 (setsFrom l (take (l .at .bows) (now (work .entry))) 0 (l .at .faces)))) (l .at .sets) (each (λ s. s) (setsFrom l (take (l .at .bows) (now (work .entry))) 0 (l .at .faces)))) ⌝ }
+    ensures { λ r. ⌜ (r ≡ length (each (λ s. s) (setsFrom l (take (l .at .bows) (now (work .entry))) 0 (l .at .faces)))) × (now (work .exit) ≡ sets (sets (sets (now (work .entry)) (l .keys) (keysOf l (take (l .at .bows) (now (work .entry))) (l .at .faces))) (l .at .starts) (startsOf 0 (setsFrom l (take (l .at .bows) (now (work .entry))) 0 (l .at .faces)))) (l .at .sets) (each (λ s. s) (setsFrom l (take (l .at .bows) (now (work .entry))) 0 (l .at .faces)))) ⌝ }
 {
     node_sets::put_keys(work, l);
     node_sets::put_sets(work, l)

@@ -18,7 +18,8 @@ same-length c = search needs
 returns : tie.Need-returns
 returns c =
     let s = c .before .before .before .before .before .before .before .before .before in
-    sets-stand (s .args .l) (s .args .work .now) _ (s .pre) (c .before .before .before .before .before .before .put-keys .ensures) _ _ (c .before .before .put-sets .ensures)
+    let e = c .before .before .put-sets .ensures in
+    sets-stand (s .args .l) (s .args .work .now) _ (s .pre) (c .before .before .before .before .before .before .put-keys .ensures) _ _ (e .0, e .2)
 
 pub put-nodes-spec : {M : Type 1} → statement M
 put-nodes-spec = tie.close (tie.spec put-keys-requires put-sets-requires same-length returns)
