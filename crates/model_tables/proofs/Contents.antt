@@ -1,12 +1,13 @@
 -- The tables that must stand: what they hold, by the cells.
 use Prim.Native.Nat.{ℕ}
+use mathlib.Core.Path.{_≡_}
 use mathlib.Core.Bool.{Bool}
 use mathlib.Core.List.{List, map}
 use lib.Dec.{leb}
 use lib.Ieee.{Float}
-use lib.ListN.{length}
+use lib.ListN.{length, replicate}
 use Rattle.laws.specs.Lists.{each, sort}
-use Rattle.laws.specs.Merging.{AllBelow}
+use Rattle.laws.specs.Merging.{region, AllBelow}
 use Rattle.geometry.specs.Coordinates.{nodeCount}
 use Rattle.mesh.specs.Model.{Raw}
 use Rattle.mesh.specs.Rings.{ringsOf, nodeSet}
@@ -45,3 +46,20 @@ pub record FaceTables (coords : List Float) (tol : Float) (cells : List Raw) (l 
   pub keys : Holds t (l .keys) (joined (map (sort leb) (each ringsOf cells)))
   pub starts : Holds t (l .at .starts) (startsOf 0 (map nodeSet (each ringsOf cells)))
   pub sets : Holds t (l .at .sets) (joined (map nodeSet (each ringsOf cells)))
+
+-- the tables of rings, the marks of bow-ties and the cells of faces
+pub record Marked (coords : List Float) (tol : Float) (cells : List Raw) (l : Layout) (w : List ℕ) : Type 0 where
+  pub rings : RingTables coords tol cells l w
+  pub bows : Holds w (l .at .bows) (map (λ c. bit (meets coords tol c)) cells)
+  pub owners : Holds w (l .at .cells) (ownersFrom 0 cells)
+
+-- all tables
+pub record Tabled (coords : List Float) (tol : Float) (cells : List Raw) (l : Layout) (w : List ℕ) : Type 0 where
+  pub rings : RingTables coords tol cells l w
+  pub faces : FaceTables coords tol cells l w
+
+-- all tables, with marks and last nodes zero
+pub record Cleared (coords : List Float) (tol : Float) (cells : List Raw) (l : Layout) (w : List ℕ) : Type 0 where
+  pub tables : Tabled coords tol cells l w
+  pub unmarked : region (l .marks) (l .at .«cell_count») w ≡ replicate (l .at .«cell_count») 0
+  pub fresh : region (l .last) (l .at .nodes) w ≡ replicate (l .at .nodes) 0

@@ -7,3 +7,4 @@ pub mod Contents
 pub mod Ringing
 pub mod Facing
 pub mod Stages
+pub mod Building

@@ -24,7 +24,7 @@ use Rattle.tables.proofs.Shown.{joined, starts-length}
 use Rattle.model_tables.proofs.Sizes.{sets-total, keys-total}
 use Rattle.model_tables.proofs.Welds.{welds-long}
 use Rattle.model_tables.proofs.Reading.{Holds, holds-put, holds-before, holds-take}
-use Rattle.model_tables.proofs.Contents.{meets, Settled, RingTables, FaceTables}
+use Rattle.model_tables.proofs.Contents.{meets, Settled, RingTables, FaceTables, Marked, Tabled}
 use Rattle.model_tables.proofs.Ringing.{ringed, bows-are, keys-are, sets-are}
 
 module _ (coords : List Float) (tol : Float) (cells : List Raw) (M K : ℕ) (l : Layout) (s : Settled coords cells M K l) where
@@ -139,13 +139,8 @@ module _ (coords : List Float) (tol : Float) (cells : List Raw) (M K : ℕ) (l :
   rings-stand w h b = ringed coords tol cells M K l (take (l .at .bows) w) s (rings-part w (l .at .bows) (omega arith) b) (length-take-le (l .at .bows) w h)
 
   -- the marks and the cells of faces
-  pub record Marked (w : List ℕ) : Type 0 where
-    pub rings : RingTables coords tol cells l w
-    pub bows : Holds w (l .at .bows) marks
-    pub owners : Holds w (l .at .cells) (ownersFrom 0 cells)
-
   pub marks-put : (w v : List ℕ) → l .keys ≤ length w → RingTables coords tol cells l w
-      → v ≡ sets (sets w (l .at .bows) (map (λ c. bit (cellBow coords tol l (take (l .at .bows) w) c)) (upFrom 0 (l .at .«cell_count»)))) (l .at .cells) (ownersFrom 0 cells) → Marked v
+      → v ≡ sets (sets w (l .at .bows) (map (λ c. bit (cellBow coords tol l (take (l .at .bows) w) c)) (upFrom 0 (l .at .«cell_count»)))) (l .at .cells) (ownersFrom 0 cells) → Marked coords tol cells l v
   marks-put w v h b e =
       let p = ends in
       let a = sets w (l .at .bows) marks in
@@ -158,14 +153,9 @@ module _ (coords : List Float) (tol : Float) (cells : List Raw) (M K : ℕ) (l :
         owners = holds-put a v (l .at .cells) (ownersFrom 0 cells) (omega arith) put;
       }
 
-  -- all tables of rings and of faces
-  pub record Tabled (w : List ℕ) : Type 0 where
-    pub rings : RingTables coords tol cells l w
-    pub faces : FaceTables coords tol cells l w
-
   -- the keys and node sets
-  pub nodes-put : (w v : List ℕ) → l .at .offsets ≤ length w → Marked w
-      → v ≡ sets (sets (sets w (l .keys) (keysOf l (take (l .at .bows) w) (l .at .faces))) (l .at .starts) (startsOf 0 (setsFrom l (take (l .at .bows) w) 0 (l .at .faces)))) (l .at .sets) (joined (setsFrom l (take (l .at .bows) w) 0 (l .at .faces))) → Tabled v
+  pub nodes-put : (w v : List ℕ) → l .at .offsets ≤ length w → Marked coords tol cells l w
+      → v ≡ sets (sets (sets w (l .keys) (keysOf l (take (l .at .bows) w) (l .at .faces))) (l .at .starts) (startsOf 0 (setsFrom l (take (l .at .bows) w) 0 (l .at .faces)))) (l .at .sets) (joined (setsFrom l (take (l .at .bows) w) 0 (l .at .faces))) → Tabled coords tol cells l v
   nodes-put w v h k e =
       let p = ends in
       let t = take (l .at .bows) w in
@@ -199,7 +189,7 @@ module _ (coords : List Float) (tol : Float) (cells : List Raw) (M K : ℕ) (l :
       }
 
   -- a run of stores behind the tables
-  pub tables-still : (w v : List ℕ) (o : ℕ) (xs : List ℕ) → l .at .offsets ≤ o → v ≡ sets w o xs → Tabled w → Tabled v
+  pub tables-still : (w v : List ℕ) (o : ℕ) (xs : List ℕ) → l .at .offsets ≤ o → v ≡ sets w o xs → Tabled coords tol cells l w → Tabled coords tol cells l v
   tables-still w v o xs h e k =
       let p = ends in
       record { rings = rings-still w v o xs (omega arith) e (k .rings); faces = faces-still w v o xs h e (k .faces) }

@@ -141,3 +141,29 @@ fn clear_scratch(work: &mut [u32], l: Layout)
     snap::clear(work, l.marks, p.cell_count);
     snap::clear(work, l.last, p.nodes);
 }
+
+// Lays out and fills all tables of an accepted model; t is what its acceptance counted.
+pub fn build_tables(
+    coords: &[f64],
+    kinds: &[u8],
+    ends: &[u32],
+    words: &[u32],
+    tol: f64,
+    checks: mesh::Checks,
+    work: &mut [u32],
+    t: mesh::CellTally,
+) -> Layout
+    requires { ⌜ modelRefusal (modelOf (now coords) (now kinds) (now ends) (now words) tol (checks .0) 0) ≡ 0 ⌝ }
+    requires { ⌜ ModelCounted (modelOf (now coords) (now kinds) (now ends) (now words) tol (checks .0) 0) t ⌝ }
+    requires { ⌜ workNeeded (modelOf (now coords) (now kinds) (now ends) (now words) tol (checks .0) 0) ≤ length (now work) ⌝ }
+    ensures { λ r. ⌜ Built (modelOf (now (coords .entry)) (now (kinds .entry)) (now (ends .entry)) (now (words .entry)) tol (checks .0) 0) r (now (work .exit)) ⌝ }
+{
+    let n = coords.len() / 3;
+    let l = plan(t.words, t.faces, kinds.len(), n, words.len(), 0);
+    put_weld(coords, tol, work, n);
+    put_rings(kinds, ends, words, work, l);
+    put_marks(coords, kinds, ends, words, tol, work, l);
+    let k = put_nodes(work, l);
+    clear_scratch(work, l);
+    plan(t.words, t.faces, kinds.len(), n, words.len(), k)
+}
