@@ -93,7 +93,7 @@ module _ (coords : List Float) (tol : Float) (cells : List Raw) (M K : ℕ) (l :
 
 module _ (m : Model) (ok : modelRefusal m ≡ 0) where
   -- the model's cells, their rings, and how many words it has
-  abbrev cells : List Raw
+  abbrev pub cells : List Raw
   cells = cellsFrom 0 (m .kinds) (m .ends) (m .words)
 
   abbrev rs : List (List ℕ)
@@ -103,7 +103,7 @@ module _ (m : Model) (ok : modelRefusal m ≡ 0) where
   M = length (m .words)
 
   -- as many cells as kinds
-  kinds-are : length cells ≡ length (m .kinds)
+  pub kinds-are : length cells ≡ length (m .kinds)
   unfolding cellsOf
   kinds-are = cells-count m (accepts m ok)
 

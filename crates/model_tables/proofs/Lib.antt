@@ -8,3 +8,4 @@ pub mod Ringing
 pub mod Facing
 pub mod Stages
 pub mod Building
+pub mod Asking
