@@ -42,6 +42,7 @@ module _ (m : Model) (ok : modelRefusal m ≡ 0) where
     within : l .spare + 2 * length (m .words) ≤ length w
     within = le-trans (room m ok K l s) h
 
+    -- so do these
     pub inside : Inside l (length w)
     inside =
         let e = within in

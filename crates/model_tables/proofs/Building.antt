@@ -1,17 +1,15 @@
 -- The tables of an accepted model: cleared behind, under the final places, and built.
-use Prim.Native.Nat.{ℕ, _+_, _*_, _≤_, _<_, _^_}
-use mathlib.Core.Path.{_≡_, refl, sym, ap, ap₂, _∙_, subst}
+use Prim.Native.Nat.{ℕ, _+_, _*_, _≤_}
+use mathlib.Core.Path.{_≡_, refl, sym, _∙_, subst}
 use mathlib.Core.List.{List, map}
 use native.Mathlib.Nat.{le-trans}
 use native.Mathlib.Omega.{arith}
 use lib.Dec.{leb}
 use lib.Ieee.{Float}
-use lib.ListN.{length, take, replicate, length-replicate}
+use lib.ListN.{length, replicate, length-replicate}
 use lib.Seq.{sets, length-sets, length-take-le}
-use Rattle.laws.specs.Limits.{nodeLimit, cellLimit, wordLimit}
 use Rattle.laws.specs.Lists.{each, sort}
 use Rattle.laws.specs.Merging.{region}
-use Rattle.laws.proofs.Stores.{region-before}
 use Rattle.geometry.specs.Coordinates.{nodeCount}
 use Rattle.mesh.specs.Model.{Model, Raw, cellsFrom, cellsOf}
 use Rattle.mesh.specs.Rings.{ringsOf, nodeSet}
@@ -20,7 +18,6 @@ use Rattle.mesh.specs.Steps.{ringTotal, ModelCounted}
 use Rattle.mesh.specs.declared.CellTally.{CellTally}
 use Rattle.mesh.proofs.Accepts.{accepts}
 use Rattle.mesh.proofs.NodeNumbers.{cells-below}
-use Rattle.faces.specs.Spans.{Sound, ringsIn}
 use Rattle.faces.proofs.Rings.{sound-of, faces-are, words-are}
 use Rattle.snap.specs.Weld.{weldedAll}
 use Rattle.ring_lists.proofs.Lists.{few-nodes}
@@ -36,7 +33,7 @@ use Rattle.tables.proofs.Lengths.{cells-small}
 use Rattle.tables.proofs.Shown.{joined}
 use Rattle.model_tables.specs.Planned.{Planned}
 use Rattle.model_tables.proofs.Sizes.{sized-cells, sized-many, sets-total}
-use Rattle.model_tables.proofs.Reading.{Holds, holds-put, holds-before, holds-at, holds-long}
+use Rattle.model_tables.proofs.Reading.{holds-put, holds-before, holds-at, holds-long}
 use Rattle.model_tables.proofs.Contents.{meets, Settled, RingTables, FaceTables, Tabled, Cleared}
 use Rattle.model_tables.proofs.Ringing.{welds-held, first-at}
 use Rattle.model_tables.proofs.Facing.{bow-read, faces-are as faces-shown, faced}
@@ -107,7 +104,7 @@ module _ (m : Model) (ok : modelRefusal m ≡ 0) where
   unfolding cellsOf
   kinds-are = cells-count m (accepts m ok)
 
-  -- few of all
+  -- at most so many cells, words, nodes, faces and ring words
   pub record Few : Type 0 where
     pub kinds : length (m .kinds) ≤ 16384
     pub words : length (m .words) ≤ 262144
@@ -115,6 +112,7 @@ module _ (m : Model) (ok : modelRefusal m ≡ 0) where
     pub rings : 3 * length rs ≤ ringTotal rs
     pub total : ringTotal rs ≤ 655360
 
+  -- an accepted model has few of all
   pub few : Few
   few =
       let z = sound-of m ok in
@@ -191,12 +189,15 @@ module _ (m : Model) (ok : modelRefusal m ≡ 0) where
       abbrev t : List ℕ
       t = input (l .at) w
 
+      -- the tables of rings there
       rings-in : RingTables (m .coords) (m .tolerance) cells l t
       rings-in = let p = s .planned in rings-part (m .coords) (m .tolerance) cells M K l s w (l .at .offsets) (omega arith) (k .tables .rings)
 
+      -- and of faces
       faces-in : FaceTables (m .coords) (m .tolerance) cells l t
       faces-in = faces-part (m .coords) (m .tolerance) cells M K l s w (l .at .offsets) (omega arith) (k .tables .faces)
 
+      -- they show the model
       shows : Shows m l t
       unfolding cellsOf facesIn rulesOf rulesWith
       shows =

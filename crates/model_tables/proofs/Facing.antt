@@ -1,9 +1,8 @@
 -- The tables of faces read: they are as the check needs them.
-use Prim.Native.Nat.{ℕ, zero, suc, _+_, _-_, _≤_, _<_}
-use mathlib.Core.Path.{_≡_, refl, sym, ap, ap₂, _∙_, subst}
+use Prim.Native.Nat.{ℕ, zero, suc, _+_, _≤_, _<_}
+use mathlib.Core.Path.{_≡_, refl, sym, ap, _∙_, subst}
 use mathlib.Core.Bool.{Bool, true, false, not}
-use mathlib.Core.List.{List, [], _∷_, _++_, map}
-use native.Mathlib.Nat.{zero-add}
+use mathlib.Core.List.{List, [], _∷_, map}
 use native.Mathlib.Omega.{arith}
 use lib.Dec.{leb, eqb}
 use lib.Ieee.{Float}
@@ -22,7 +21,7 @@ use Rattle.mesh.specs.Steps.{ringTotal}
 use Rattle.findings.specs.Compared.{none}
 use Rattle.index.specs.Faces.{cellOf, bowOf, startOf, nodesOf, Laid}
 use Rattle.layout.specs.declared.Layout.{Layout}
-use Rattle.layout.specs.Tables.{startsOf, rowOf, ringRow, keyRow, firstOf, facesAt, Faced}
+use Rattle.layout.specs.Tables.{startsOf, ringRow, keyRow, firstOf, facesAt, Faced}
 use Rattle.layout.specs.ByCell.{bit}
 use Rattle.tables.specs.Owners.{ownersFrom}
 use Rattle.tables.proofs.Passing.{owners-length}
@@ -30,7 +29,7 @@ use Rattle.tables.proofs.Shown.{joined, starts-length, joined-next, start-read,
 use Rattle.model_tables.proofs.Sizes.{below-sets, length-set-of, sets-total}
 use Rattle.model_tables.proofs.Reading.{holds-long, each-most}
 use Rattle.model_tables.proofs.Contents.{meets, Settled, RingTables, FaceTables}
-use Rattle.model_tables.proofs.Ringing.{starts-held, firsts-held, welds-held, ring-at, first-at, face-in, rows-rise, rows-within, ring-sized, ring-known, welds-known, firsts-rising}
+use Rattle.model_tables.proofs.Ringing.{starts-held, firsts-held, ring-at, first-at, face-in, rows-rise, rows-within, ring-sized, ring-known, welds-known, firsts-rising}
 
 -- ---- lists as long as others
 
@@ -39,11 +38,12 @@ starts-same : (f : List ℕ → List ℕ) → ((r : List ℕ) → length (f r) �
 starts-same f h k [] = refl
 starts-same f h k (r ∷ rs) = ap (λ (x : List ℕ). k ∷ x) (ap (λ (n : ℕ). startsOf (k + n) (map f rs)) (h r) ∙ starts-same f h (k + length r) rs)
 
--- the owner of a face is one of the cells
+-- a number below n, again and again
 below-replicate : (n k v : ℕ) → v < n → AllBelow n (replicate k v)
 below-replicate n zero v h = tt
 below-replicate n (suc k) v h = (h, below-replicate n k v h)
 
+-- the owner of a face is one of the cells
 below-owners : (n i : ℕ) (cs : List Raw) → i + length cs ≤ n → AllBelow n (ownersFrom i cs)
 below-owners n i [] h = tt
 below-owners n i (c ∷ cs) h =
@@ -64,6 +64,7 @@ module _ (coords : List Float) (tol : Float) (cells : List Raw) (M K : ℕ) (l :
 
   -- ---- marks, owners and faces
 
+  -- the cells of faces
   owners-held : region (l .at .cells) (length rs) t ≡ ownersFrom 0 cells
   owners-held = holds-long t (l .at .cells) (length rs) (ownersFrom 0 cells) (sym (owners-length 0 cells)) (f .owners)
 
@@ -89,6 +90,7 @@ module _ (coords : List Float) (tol : Float) (cells : List Raw) (M K : ℕ) (l :
 
   -- ---- keys
 
+  -- the key of a face
   key-at : (g : ℕ) → g < l .at .faces → keyRow l t g ≡ sort leb (ringRow l t g)
   unfolding keyRow
   key-at g h =
@@ -102,15 +104,19 @@ module _ (coords : List Float) (tol : Float) (cells : List Raw) (M K : ℕ) (l :
 
   -- ---- node sets
 
+  -- as many sets as rings
   many-sets : length sets ≡ length rs
   many-sets = length-map rs nodeSet
 
+  -- the starts of sets
   sets-begun : region (l .at .starts) (length sets + 1) t ≡ startsOf 0 sets
   sets-begun = holds-long t (l .at .starts) (length sets + 1) (startsOf 0 sets) (sym (starts-length 0 sets)) (f .starts)
 
+  -- where a set starts
   start-at : (g : ℕ) → g ≤ l .at .faces → startOf (l .at) t g ≡ ringTotal (take g sets)
   start-at g h = start-read sets (l .at .starts) (l .at .sets) t (f .sets) sets-begun g (omega (arith, many-sets, s .planned .many-faces))
 
+  -- the node set of a face
   set-at : (g : ℕ) → g < l .at .faces → nodesOf (l .at) t g ≡ nodeSet (ringRow l t g)
   unfolding nodesOf
   set-at g h =
@@ -130,6 +136,7 @@ module _ (coords : List Float) (tol : Float) (cells : List Raw) (M K : ℕ) (l :
   -- ---- all of them
 
   module _ (whole : length t ≡ l .at .offsets) (size : K ≡ ringTotal sets) where
+    -- the node sets are laid out
     laid : Laid (l .at) t
     laid =
         let p = s .planned in
@@ -149,6 +156,7 @@ module _ (coords : List Float) (tol : Float) (cells : List Raw) (M K : ℕ) (l :
           few = λ g h. omega (arith, ap length (set-at g h), length-set-of (ringRow l t g), ring-sized coords tol cells M K l t s b g h .1);
         }
 
+    -- the tables are as they must be
     pub faced : Faced l t
     faced =
         let p = s .planned in

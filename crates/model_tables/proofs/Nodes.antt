@@ -14,9 +14,11 @@ use Rattle.node_sets.specs.Sets.{keysOf, setsFrom, Keyed}
 use Rattle.node_sets.proofs.Keys.{keys-long}
 
 module _ (l : Layout) (w v : List ℕ) (p : Ringed l (take (l .at .bows) w) × (l .at .bows ≤ l .keys) × (l .keys + l .total ≤ l .at .starts) × (l .at .starts + (l .at .faces + 1) ≤ l .at .sets) × (l .at .sets + l .total ≤ length w) × (l .total < 2 ^ 32)) (put : v ≡ sets w (l .keys) (keysOf l (take (l .at .bows) w) (l .at .faces))) where
+  -- the tables of rings
   abbrev t : List ℕ
   t = take (l .at .bows) w
 
+  -- the keys
   abbrev keys : List ℕ
   keys = keysOf l t (l .at .faces)
 
@@ -52,6 +54,6 @@ module _ (l : Layout) (w v : List ℕ) (p : Ringed l (take (l .at .bows) w) × (
   sets-stand r u e = (
     e .0 ∙ ap (λ (x : List ℕ). length (each (λ s. s) (setsFrom l x 0 (l .at .faces)))) same,
     e .1
-    ∙ ap (λ (x : List ℕ). sets (sets v (l .at .starts) (startsOf 0 (setsFrom l x 0 (l .at .faces)))) (l .at .sets) (each (λ s. s) (setsFrom l x 0 (l .at .faces)))) same
-    ∙ ap (λ (x : List ℕ). sets (sets x (l .at .starts) (startsOf 0 (setsFrom l t 0 (l .at .faces)))) (l .at .sets) (each (λ s. s) (setsFrom l t 0 (l .at .faces)))) put,
+        ∙ ap (λ (x : List ℕ). sets (sets v (l .at .starts) (startsOf 0 (setsFrom l x 0 (l .at .faces)))) (l .at .sets) (each (λ s. s) (setsFrom l x 0 (l .at .faces)))) same
+        ∙ ap (λ (x : List ℕ). sets (sets x (l .at .starts) (startsOf 0 (setsFrom l t 0 (l .at .faces)))) (l .at .sets) (each (λ s. s) (setsFrom l t 0 (l .at .faces)))) put,
   )

@@ -1,8 +1,8 @@
 -- The tables of rings read: they are as the marks, the keys and the node sets need them.
-use Prim.Native.Nat.{ℕ, zero, suc, _+_, _-_, _≤_, _<_}
-use mathlib.Core.Path.{_≡_, refl, sym, ap, ap₂, _∙_, subst}
+use Prim.Native.Nat.{ℕ, _+_, _-_, _≤_, _<_}
+use mathlib.Core.Path.{_≡_, sym, ap, ap₂, _∙_, subst}
 use mathlib.Core.Bool.{Bool}
-use mathlib.Core.List.{List, [], _∷_, map}
+use mathlib.Core.List.{List, [], map}
 use native.Mathlib.Nat.{zero-add}
 use native.Mathlib.Omega.{arith}
 use lib.Dec.{leb}
@@ -41,12 +41,15 @@ module _ (coords : List Float) (tol : Float) (cells : List Raw) (M K : ℕ) (l :
 
   -- ---- words of the tables
 
+  -- the starts of rings
   pub starts-held : region (l .rows) (length rs + 1) t ≡ startsOf 0 rs
   starts-held = holds-long t (l .rows) (length rs + 1) (startsOf 0 rs) (sym (starts-length 0 rs)) (b .rows)
 
+  -- the first faces of cells
   pub firsts-held : region (l .firsts) (length cells + 1) t ≡ startsOf 0 (map ringsOf cells)
   firsts-held = holds-long t (l .firsts) (length cells + 1) (startsOf 0 (map ringsOf cells)) (omega (arith, starts-length 0 (map ringsOf cells), length-map cells ringsOf)) (b .firsts)
 
+  -- the welded map
   pub welds-held : region (l .weld) (l .at .nodes) t ≡ welds
   welds-held = holds-long t (l .weld) (l .at .nodes) welds (s .planned .many-nodes ∙ sym (welds-long coords tol)) (b .welds)
 
@@ -69,32 +72,37 @@ module _ (coords : List Float) (tol : Float) (cells : List Raw) (M K : ℕ) (l :
 
   -- ---- what the tables must be
 
+  -- the starts of rings rise
   pub rows-rise : (g : ℕ) → g < l .at .faces → getD t (l .rows + g) 0 ≤ getD t (l .rows + (g + 1)) 0
   rows-rise g h =
       let k = face-in g h in
       omega (arith, row-at g (omega arith), row-at (g + 1) (omega arith), joined-next rs g k)
 
+  -- they lie within all words of rings
   pub rows-within : (g : ℕ) → g ≤ l .at .faces → getD t (l .rows + g) 0 ≤ l .total
   rows-within g h = omega (arith, row-at g (omega (arith, s .planned .many-faces)), each-most (λ r. r) g rs, s .planned .many-total)
 
-  -- a ring's words are as many as they must be, and nodes
+  -- a ring has 3 to 64 words
   pub ring-sized : (g : ℕ) → g < l .at .faces → (3 ≤ length (ringRow l t g)) × (length (ringRow l t g) ≤ 64)
   ring-sized g h =
       let k = face-in g h in
       let z = sized-at rs g (sized-cells cells (s .well)) k in
       (omega (arith, z .0, ap length (ring-at g k)), omega (arith, z .1, ap length (ring-at g k)))
 
+  -- they are nodes
   pub ring-known : (g : ℕ) → g < l .at .faces → AllBelow (l .at .nodes) (ringRow l t g)
   ring-known g h =
       let k = face-in g h in
       subst (λ (n : ℕ). AllBelow n (ringRow l t g)) (sym (s .planned .many-nodes))
       (subst (AllBelow (nodeCount coords)) (sym (ring-at g k)) (below-ring (nodeCount coords) rs g (s .below) k))
 
+  -- so are the welded numbers
   pub welds-known : AllBelow (l .at .nodes) (region (l .weld) (l .at .nodes) t)
   welds-known =
       subst (λ (n : ℕ). AllBelow n (region (l .weld) (l .at .nodes) t)) (sym (s .planned .many-nodes))
       (subst (AllBelow (nodeCount coords)) (sym welds-held) (welds-below coords tol))
 
+  -- the first faces rise
   pub firsts-rising : (c : ℕ) → c < l .at .«cell_count» → firstOf l t c ≤ firstOf l t (c + 1)
   firsts-rising c h = firsts-rise l t cells firsts-held c (omega (arith, s .planned .many-cells))
 
@@ -126,6 +134,7 @@ module _ (coords : List Float) (tol : Float) (cells : List Raw) (M K : ℕ) (l :
   abbrev crossed : List ℕ → Bool
   crossed r = bowTieOf tol (pointsOf coords (map (weldedBy welds) r))
 
+  -- a ring of the tables does where the ring does
   ring-bow : (g : ℕ) → g < length rs → ringBow coords tol l t g ≡ crossed (getD rs g [])
   unfolding ringBow
   ring-bow g h = ap₂ (λ (x r : List ℕ). bowTieOf tol (pointsOf coords (map (weldedBy x) r))) welds-held (ring-at g h)

@@ -1,6 +1,6 @@
 -- The tables put group by group: what stands stays.
-use Prim.Native.Nat.{ℕ, _+_, _*_, _≤_}
-use mathlib.Core.Path.{_≡_, refl, sym, ap, ap₂, _∙_}
+use Prim.Native.Nat.{ℕ, _+_, _≤_}
+use mathlib.Core.Path.{_≡_, refl, ap, ap₂, _∙_}
 use mathlib.Core.List.{List, map}
 use native.Mathlib.Omega.{arith}
 use lib.Dec.{leb}
@@ -12,7 +12,6 @@ use Rattle.laws.specs.Merging.{region}
 use Rattle.geometry.specs.Coordinates.{nodeCount}
 use Rattle.mesh.specs.Model.{Raw}
 use Rattle.mesh.specs.Rings.{ringsOf, nodeSet}
-use Rattle.mesh.specs.Steps.{ringTotal}
 use Rattle.snap.specs.Weld.{weldedAll}
 use Rattle.layout.specs.declared.Layout.{Layout}
 use Rattle.layout.specs.Tables.{startsOf, Ringed}
@@ -52,6 +51,7 @@ module _ (coords : List Float) (tol : Float) (cells : List Raw) (M K : ℕ) (l :
     starts-end : l .at .starts + length (startsOf 0 nodes) ≤ l .at .sets
     sets-end : l .at .sets + length (joined nodes) ≤ l .at .offsets
 
+  -- they do
   ends : Ends
   ends =
       record {
@@ -68,6 +68,7 @@ module _ (coords : List Float) (tol : Float) (cells : List Raw) (M K : ℕ) (l :
 
   -- ---- a run of stores behind them, and their part of the slice
 
+  -- the tables of rings stay
   rings-still : (w v : List ℕ) (o : ℕ) (xs : List ℕ) → l .at .bows ≤ o → v ≡ sets w o xs → RingTables coords tol cells l w → RingTables coords tol cells l v
   rings-still w v o xs h e b =
       let p = ends in
@@ -78,6 +79,7 @@ module _ (coords : List Float) (tol : Float) (cells : List Raw) (M K : ℕ) (l :
         firsts = holds-before w v o xs (l .firsts) (startsOf 0 (map ringsOf cells)) (omega arith) e (b .firsts);
       }
 
+  -- they stand in a part that holds them
   pub rings-part : (w : List ℕ) (n : ℕ) → l .at .bows ≤ n → RingTables coords tol cells l w → RingTables coords tol cells l (take n w)
   rings-part w n h b =
       let p = ends in
@@ -88,6 +90,7 @@ module _ (coords : List Float) (tol : Float) (cells : List Raw) (M K : ℕ) (l :
         firsts = holds-take w n (l .firsts) (startsOf 0 (map ringsOf cells)) (omega arith) (b .firsts);
       }
 
+  -- the tables of faces stay
   faces-still : (w v : List ℕ) (o : ℕ) (xs : List ℕ) → l .at .offsets ≤ o → v ≡ sets w o xs → FaceTables coords tol cells l w → FaceTables coords tol cells l v
   faces-still w v o xs h e f =
       let p = ends in
@@ -99,6 +102,7 @@ module _ (coords : List Float) (tol : Float) (cells : List Raw) (M K : ℕ) (l :
         sets = holds-before w v o xs (l .at .sets) (joined nodes) (omega arith) e (f .sets);
       }
 
+  -- they stand in a part that holds them
   pub faces-part : (w : List ℕ) (n : ℕ) → l .at .offsets ≤ n → FaceTables coords tol cells l w → FaceTables coords tol cells l (take n w)
   faces-part w n h f =
       let p = ends in
@@ -171,8 +175,8 @@ module _ (coords : List Float) (tol : Float) (cells : List Raw) (M K : ℕ) (l :
       ∙ ap (λ (x : List (List ℕ)). sets (sets a (l .at .starts) (startsOf 0 x)) (l .at .sets) (joined x)) (sets-are coords tol cells M K l t s part) in
       let past : (o : ℕ) (xs : List ℕ) → o + length xs ≤ l .keys → Holds w o xs → Holds v o xs =
       λ o xs q z.
-          holds-before b v (l .at .sets) (joined nodes) o xs (omega arith) put
-          (holds-before a b (l .at .starts) (startsOf 0 nodes) o xs (omega arith) refl (holds-before w a (l .keys) keys o xs q refl z)) in
+      holds-before b v (l .at .sets) (joined nodes) o xs (omega arith) put
+      (holds-before a b (l .at .starts) (startsOf 0 nodes) o xs (omega arith) refl (holds-before w a (l .keys) keys o xs q refl z)) in
       record {
         rings =
             rings-still b v (l .at .sets) (joined nodes) (omega arith) put

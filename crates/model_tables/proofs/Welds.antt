@@ -1,6 +1,6 @@
 -- Welded numbers are nodes.
-use Prim.Native.Nat.{ℕ, zero, suc, _+_, _≤_, _<_}
-use mathlib.Core.Path.{_≡_, refl, ap, _∙_}
+use Prim.Native.Nat.{ℕ, zero, suc, _<_}
+use mathlib.Core.Path.{_≡_, refl, _∙_}
 use mathlib.Core.Bool.{Bool, true, false, cond, _||_}
 use mathlib.Core.List.{List, [], _∷_}
 use native.Mathlib.Omega.{arith}
@@ -67,14 +67,17 @@ length-give : (v : ℕ) (g l : List ℕ) → length (give v g l) ≡ length l
 length-give v [] l = refl
 length-give v (i ∷ g) l = length-give v g (set l i v) ∙ length-set l i v
 
+-- so do groups
 length-spread : (gs : List (List ℕ)) (l : List ℕ) → length (spread gs l) ≡ length l
 length-spread [] l = refl
 length-spread (x ∷ gs) l = length-spread gs (give (least x) x l) ∙ length-give (least x) x l
 
 module _ (c : List Float) (t : Float) where
+  -- the number of nodes
   abbrev n : ℕ
   n = nodeCount c
 
+  -- the groups of all nodes
   abbrev gs : List (List ℕ)
   gs = groups c t (λ k. false) (sort (beforeOf c) (upFrom 0 n))
 

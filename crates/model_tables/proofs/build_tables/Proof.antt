@@ -1,14 +1,12 @@
 -- `model_tables::build_tables` meets its contract: group by group the tables stand, and all are built.
 use Prim.Native.Nat.{ℕ, _≤_}
-use mathlib.Core.Path.{_≡_, sym, ap, _∙_, subst}
+use mathlib.Core.Path.{_≡_, ap, _∙_}
 use mathlib.Core.List.{List}
 use native.Mathlib.Omega.{arith}
 use lib.ListN.{length, take}
 use Rattle.mesh.specs.Model.{Model, modelOf}
 use Rattle.mesh.specs.Acceptance.{workNeeded}
 use Rattle.mesh.specs.Steps.{ringTotal}
-use Rattle.layout.specs.declared.Layout.{Layout}
-use Rattle.tables.proofs.Shown.{joined}
 use Rattle.model_tables.proofs.Contents.{Settled, RingTables, Marked, Tabled, Cleared}
 use Rattle.model_tables.proofs.Ringing.{sets-are}
 use Rattle.model_tables.proofs.Stages.{rings-part, rings-put, marks-put, nodes-put}
@@ -27,9 +25,11 @@ kept w v e h = omega arith
 
 -- ---- after each step
 
+-- the places are those of the model
 planned-at : (c : tie.After-plan) → Settled (model (c .before .before .before .before .before .before) .coords) (cells (model (c .before .before .before .before .before .before)) (c .before .before .before .before .before .before .pre .0)) (length (model (c .before .before .before .before .before .before) .words)) 0 (c .plan .result)
 planned-at c = let s = c .before .before .before .before .before .before in settled (model s) (s .pre .0) (s .args .t) (s .pre .1 .0) 0 (c .plan .result) (c .plan .ensures)
 
+-- the slice keeps its room
 room-weld : (c : tie.After-put-weld) → workNeeded (model (c .before .before .before .before .before .before .before .before)) ≤ length (c .put-weld .last .1 .1 .0)
 room-weld c = kept (c .before .before .before .before .before .before .before .before .args .work .now) (c .put-weld .last .1 .1 .0) (c .put-weld .kept .1 .1 .0) (c .before .before .before .before .before .before .before .before .pre .1 .1)
 
@@ -45,6 +45,7 @@ room-nodes c = kept (c .before .before .before .before .put-marks .last .1 .1 .1
 room-clear : (c : tie.After-clear-scratch) → workNeeded (model (c .before .before .before .before .before .before .before .before .before .before .before .before .before .before .before .before .before .before .before .before .before .before .before .before)) ≤ length (c .clear-scratch .last .0)
 room-clear c = kept (c .before .before .before .before .put-nodes .last .0) (c .clear-scratch .last .0) (c .clear-scratch .kept .0) (room-nodes (c .before .before .before .before))
 
+-- the tables of rings stand, then those of marks, then all, then with zeros behind them
 rings-at : (c : tie.After-put-rings) → RingTables (model (c .before .before .before .before .before .before .before .before .before .before .before .before) .coords) (model (c .before .before .before .before .before .before .before .before .before .before .before .before) .tolerance) (cells (model (c .before .before .before .before .before .before .before .before .before .before .before .before)) (c .before .before .before .before .before .before .before .before .before .before .before .before .pre .0)) (c .before .before .before .before .before .before .plan .result) (c .put-rings .last .1 .1 .1 .0)
 rings-at c =
     let s = c .before .before .before .before .before .before .before .before .before .before .before .before in
