@@ -1,7 +1,22 @@
 -- For internal contracts: the places of the tables.
 use Prim.Native.Nat.{ℕ, _+_, _*_}
 use mathlib.Core.Path.{_≡_}
+use Rattle.index.specs.declared.Places.{Places}
 use Rattle.layout.specs.declared.Layout.{Layout}
+
+-- the places of the pair search from b on, with R words of keys before the starts
+pub record Searched (R F C N K b : ℕ) (p : Places) : Type 0 where
+  pub many-faces : p .faces ≡ F
+  pub many-nodes : p .nodes ≡ N
+  pub many-sets : p .words ≡ K
+  pub many-cells : p .«cell_count» ≡ C
+  pub bows-at : p .bows ≡ b
+  pub cells-at : p .cells ≡ b + C
+  pub starts-at : p .starts ≡ p .cells + F + R
+  pub sets-at : p .sets ≡ p .starts + (F + 1)
+  pub offsets-at : p .offsets ≡ p .sets + R
+  pub index-at : p .index ≡ p .offsets + (N + 2)
+  pub found-at : p .found ≡ p .index + R
 
 -- each region right behind the one before, for R ring words, F faces, C cells, N nodes, M words and K words of node sets
 pub record Planned (R F C N M K : ℕ) (l : Layout) : Type 0 where

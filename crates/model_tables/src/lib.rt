@@ -19,30 +19,20 @@ ghost use Rattle.layout.specs.ByCell.{cellBow, bit};
 ghost use Rattle.layout.specs.Shown.{Built};
 ghost use Rattle.node_sets.specs.Sets.{keysOf, setsFrom};
 ghost use Rattle.tables.specs.Owners.{ownersFrom};
-ghost use Rattle.model_tables.specs.Planned.{Planned};
+ghost use Rattle.model_tables.specs.Planned.{Searched, Planned};
 use layout::Layout;
 
-// The places of all tables, for r ring words, f faces, c cells, n nodes, m words and k words of node sets.
-fn plan(r: usize, f: usize, c: usize, n: usize, m: usize, k: usize) -> Layout
-    requires { ⌜ (r < 2 ^ 32) × (f < 2 ^ 32) × (c < 2 ^ 32) × (n < 2 ^ 32) × (m < 2 ^ 32) ⌝ }
-    ensures { λ l. ⌜ Planned r f c n m k l ⌝ }
+// The places of the tables of the pair search, from `bows` on, with the keys between them; see `plan`.
+fn plan_search(r: usize, f: usize, c: usize, n: usize, k: usize, bows: usize) -> index::Places
+    requires { ⌜ (r < 2 ^ 32) × (f < 2 ^ 32) × (c < 2 ^ 32) × (n < 2 ^ 32) × (bows < 2 ^ 36) ⌝ }
+    ensures { λ p. ⌜ Searched r f c n k bows p ⌝ }
 {
-    let rows = n + r;
-    let firsts = rows + (f + 1);
-    let bows = firsts + (c + 1);
     let cells = bows + c;
-    let keys = cells + f;
-    let starts = keys + r;
+    let starts = cells + f + r;
     let sets = starts + (f + 1);
     let offsets = sets + r;
     let index = offsets + (n + 2);
-    let found = index + r;
-    let marks = found + f;
-    let others = marks + c;
-    let last = others + c;
-    let pairs = last + n;
-    let spare = pairs + 2 * m;
-    let at = index::Places {
+    index::Places {
         faces: f,
         nodes: n,
         words: k,
@@ -53,22 +43,36 @@ fn plan(r: usize, f: usize, c: usize, n: usize, m: usize, k: usize) -> Layout
         sets: sets,
         offsets: offsets,
         index: index,
-        found: found,
-    };
+        found: index + r,
+    }
+}
+
+// The places of all tables, for r ring words, f faces, c cells, n nodes, m words and k words of node sets.
+fn plan(r: usize, f: usize, c: usize, n: usize, m: usize, k: usize) -> Layout
+    requires { ⌜ (r < 2 ^ 32) × (f < 2 ^ 32) × (c < 2 ^ 32) × (n < 2 ^ 32) × (m < 2 ^ 32) ⌝ }
+    ensures { λ l. ⌜ Planned r f c n m k l ⌝ }
+{
+    let rows = n + r;
+    let firsts = rows + (f + 1);
+    let at = plan_search(r, f, c, n, k, firsts + (c + 1));
+    let marks = at.found + f;
+    let others = marks + c;
+    let last = others + c;
+    let pairs = last + n;
     Layout {
         at: at,
         total: r,
         words: m,
         weld: 0,
         rings: n,
-        keys: keys,
+        keys: at.cells + f,
         rows: rows,
         firsts: firsts,
         marks: marks,
         others: others,
         last: last,
         pairs: pairs,
-        spare: spare,
+        spare: pairs + 2 * m,
     }
 }
 
