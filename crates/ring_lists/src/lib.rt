@@ -21,7 +21,7 @@ pub enum RingsAnswer {
 }
 
 // All n nodes welded: their numbers stand in work from 2n on.
-fn weld_all(coords: &[f64], tol: f64, work: &mut [u32], n: usize)
+pub fn weld_all(coords: &[f64], tol: f64, work: &mut [u32], n: usize)
     requires { ⌜ (n ≡ nodeCount (now coords)) × (3 * n ≤ length (now work)) × (n < 2 ^ 32) × (coordinatesOff (now coords) ≡ false) ⌝ }
     ensures { λ _. ⌜ (region (n + n) n (now (work .exit)) ≡ weldedAll (now (coords .entry)) tol) × But 0 (n + n + n) (now (work .entry)) (now (work .exit)) ⌝ }
 {

@@ -1,0 +1,75 @@
+-- What each step asks of the model, the places and the slice.
+use Prim.Native.Nat.{ℕ, _+_, _*_, _≤_, _<_, _^_}
+use mathlib.Core.Path.{_≡_, refl}
+use mathlib.Core.Bool.{false}
+use mathlib.Core.List.{List}
+use native.Mathlib.Nat.{le-trans}
+use native.Mathlib.Omega.{arith}
+use lib.ListN.{length, take}
+use Rattle.geometry.specs.Coordinates.{nodeCount, coordinatesOff}
+use Rattle.mesh.specs.Model.{Model}
+use Rattle.mesh.specs.Acceptance.{modelRefusal, workNeeded}
+use Rattle.mesh.specs.Steps.{ringTotal, ModelCounted}
+use Rattle.mesh.specs.declared.CellTally.{CellTally}
+use Rattle.mesh.proofs.Accepts.{accepts}
+use Rattle.faces.specs.Spans.{Sound, ringsIn}
+use Rattle.faces.proofs.Rings.{sound-of}
+use Rattle.ring_lists.proofs.Lists.{work-room}
+use Rattle.layout.specs.declared.Layout.{Layout}
+use Rattle.layout.specs.Tables.{Ringed}
+use Rattle.model_tables.proofs.Contents.{Settled, RingTables, Marked}
+use Rattle.model_tables.proofs.Stages.{rings-stand}
+use Rattle.model_tables.proofs.Building.{cells, kinds-are, few, room}
+
+-- n words hold the tables up to each of these places
+pub record Inside (l : Layout) (n : ℕ) : Type 0 where
+  pub bows : l .at .bows ≤ n
+  pub keys : l .keys ≤ n
+  pub offsets : l .at .offsets ≤ n
+  pub pairs : l .pairs ≤ n
+
+module _ (m : Model) (ok : modelRefusal m ≡ 0) where
+  -- the places: no sum wraps
+  pub asks-plan : (t : CellTally) → ModelCounted m t → (t .words < 2 ^ 32) × (t .faces < 2 ^ 32) × (length (m .kinds) < 2 ^ 32) × (nodeCount (m .coords) < 2 ^ 32) × (length (m .words) < 2 ^ 32)
+  asks-plan t c = let f = few m ok in (c .small, c .few, omega (arith, f .kinds), omega (arith, f .nodes), omega (arith, f .words))
+
+  -- the welded map: three words a node
+  pub asks-weld : (w : List ℕ) → workNeeded m ≤ length w → (nodeCount (m .coords) ≡ nodeCount (m .coords)) × (3 * nodeCount (m .coords) ≤ length w) × (nodeCount (m .coords) < 2 ^ 32) × (coordinatesOff (m .coords) ≡ false)
+  asks-weld w h = let f = few m ok in (refl, le-trans (work-room m ok) h, omega (arith, f .nodes), accepts m ok .places)
+
+  module _ (K : ℕ) (l : Layout) (s : Settled (m .coords) (cells m ok) (length (m .words)) K l) (w : List ℕ) (h : workNeeded m ≤ length w) where
+    -- all places lie in the slice
+    within : l .spare + 2 * length (m .words) ≤ length w
+    within = le-trans (room m ok K l s) h
+
+    -- so do these
+    pub inside : Inside l (length w)
+    inside =
+        let e = within in
+        record { bows = omega arith; keys = omega arith; offsets = omega arith; pairs = omega arith }
+
+    -- the rings
+    pub asks-rings : Sound (m .kinds) (m .ends) (m .words) × ((l .rings + ringTotal (ringsIn (m .kinds) (m .ends) (m .words)) ≤ length w) × (l .rows + (length (ringsIn (m .kinds) (m .ends) (m .words)) + 1) ≤ length w) × (l .firsts + (length (m .kinds) + 1) ≤ length w))
+    asks-rings =
+        let e = within in
+        (sound-of m ok, (omega arith, omega arith, omega (arith, kinds-are m ok)))
+
+    -- the marks and the cells of faces
+    pub asks-marks : RingTables (m .coords) (m .tolerance) (cells m ok) l w
+        → Sound (m .kinds) (m .ends) (m .words) × Ringed l (take (l .at .bows) w) × (l .at .bows + l .at .«cell_count» ≤ length w) × (l .at .nodes ≡ nodeCount (m .coords)) × (l .at .cells + length (ringsIn (m .kinds) (m .ends) (m .words)) ≤ length w)
+    asks-marks b =
+        let e = within in
+        (sound-of m ok, rings-stand (m .coords) (m .tolerance) (cells m ok) (length (m .words)) K l s w (inside .bows) b, omega arith, s .planned .many-nodes, omega arith)
+
+    -- the keys and node sets
+    pub asks-nodes : Marked (m .coords) (m .tolerance) (cells m ok) l w
+        → Ringed l (take (l .at .bows) w) × (l .at .bows ≤ l .keys) × (l .keys + l .total ≤ l .at .starts) × (l .at .starts + (l .at .faces + 1) ≤ l .at .sets) × (l .at .sets + l .total ≤ length w) × (l .total < 2 ^ 32)
+    asks-nodes b =
+        let e = within in
+        (rings-stand (m .coords) (m .tolerance) (cells m ok) (length (m .words)) K l s w (inside .bows) (b .rings), omega arith, omega arith, omega arith, omega arith, omega (arith, few m ok .total))
+
+    -- the zeros
+    pub asks-zeros : (l .marks + l .at .«cell_count» ≤ length w) × (l .last + l .at .nodes ≤ length w)
+    asks-zeros =
+        let e = within in
+        (omega arith, omega arith)

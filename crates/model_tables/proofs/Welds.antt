@@ -1,0 +1,102 @@
+-- Welded numbers are nodes.
+use Prim.Native.Nat.{ℕ, zero, suc, _<_}
+use mathlib.Core.Path.{_≡_, refl, _∙_}
+use mathlib.Core.Bool.{Bool, true, false, cond, _||_}
+use mathlib.Core.List.{List, [], _∷_}
+use native.Mathlib.Omega.{arith}
+use lib.Dec.{ltb}
+use lib.Ieee.{Float, eq}
+use lib.ListN.{length, set, length-set}
+use Rattle.laws.specs.Lists.{elem, sort, upFrom}
+use Rattle.laws.specs.Merging.{AllBelow}
+use Rattle.laws.proofs.Bounds.{below-sort, below-upFrom}
+use Rattle.laws.proofs.ListLaws.{length-upFrom}
+use Rattle.floats.specs.Floats.{zero64}
+use Rattle.geometry.specs.Coordinates.{nodeCount}
+use Rattle.snap.specs.Weld.{beforeOf, takes, groups, leastFrom, least, give, spread, welded, weldedAll}
+use Rattle.snap.proofs.Groups.{nodes-takes}
+
+-- groups of nodes below n, none empty
+abbrev Grouped : ℕ → List (List ℕ) → Type 0
+Grouped n [] = Unit {0}
+Grouped n (g ∷ gs) = (0 < length g) × AllBelow n g × Grouped n gs
+
+-- the least of nodes is one
+least-from : (n m : ℕ) (l : List ℕ) → m < n → AllBelow n l → leastFrom m l < n
+least-from n m [] h k = h
+least-from n m (x ∷ l) h k = least-from n (cond (ltb x m) x m) l (go (ltb x m)) (k .1)
+  where
+    go : (b : Bool) → cond b x m < n
+    go true = k .0
+    go false = h
+
+-- the least of a group is a node
+least-below : (n : ℕ) (g : List ℕ) → 0 < length g → AllBelow n g → least g < n
+least-below n [] h k = absurd (omega arith)
+least-below n (x ∷ g) h k = least-from n x g (k .0) (k .1)
+
+-- one node put among nodes
+below-put : (n i v : ℕ) (l : List ℕ) → v < n → AllBelow n l → AllBelow n (set l i v)
+below-put n i v [] h k = tt
+below-put n zero v (x ∷ l) h k = (h, k .1)
+below-put n (suc i) v (x ∷ l) h k = (k .0, below-put n i v l h (k .1))
+
+-- a node given to places
+below-give : (n v : ℕ) (g l : List ℕ) → v < n → AllBelow n l → AllBelow n (give v g l)
+below-give n v [] l h k = k
+below-give n v (i ∷ g) l h k = below-give n v g (set l i v) h (below-put n i v l h k)
+
+-- the least of each group given to it
+below-spread : (n : ℕ) (gs : List (List ℕ)) (l : List ℕ) → Grouped n gs → AllBelow n l → AllBelow n (spread gs l)
+below-spread n [] l g k = k
+below-spread n (x ∷ gs) l g k = below-spread n gs (give (least x) x l) (g .2) (below-give n (least x) x l (least-below n x (g .0) (g .1)) k)
+
+-- the groups of nodes
+groups-below : (c : List Float) (t : Float) (n : ℕ) (f : ℕ → Bool) (ns : List ℕ) → AllBelow n ns → Grouped n (groups c t f ns)
+groups-below c t n f [] k = tt
+groups-below c t n f (x ∷ ns) k =
+    go (f x) (groups-below c t n f ns (k .1)) (groups-below c t n (λ i. elem i (x ∷ takes c t x f ns) || f i) ns (k .1))
+  where
+    go : (b : Bool) → Grouped n (groups c t f ns) → Grouped n (groups c t (λ i. elem i (x ∷ takes c t x f ns) || f i) ns)
+        → Grouped n (cond b (groups c t f ns) ((x ∷ takes c t x f ns) ∷ groups c t (λ i. elem i (x ∷ takes c t x f ns) || f i) ns))
+    go true p q = p
+    go false p q = (omega arith, (k .0, nodes-takes c t n x f ns (k .1)), q)
+
+-- places given keep the length
+length-give : (v : ℕ) (g l : List ℕ) → length (give v g l) ≡ length l
+length-give v [] l = refl
+length-give v (i ∷ g) l = length-give v g (set l i v) ∙ length-set l i v
+
+-- so do groups
+length-spread : (gs : List (List ℕ)) (l : List ℕ) → length (spread gs l) ≡ length l
+length-spread [] l = refl
+length-spread (x ∷ gs) l = length-spread gs (give (least x) x l) ∙ length-give (least x) x l
+
+module _ (c : List Float) (t : Float) where
+  -- the number of nodes
+  abbrev n : ℕ
+  n = nodeCount c
+
+  -- the groups of all nodes
+  abbrev gs : List (List ℕ)
+  gs = groups c t (λ k. false) (sort (beforeOf c) (upFrom 0 n))
+
+  -- the welded numbers of a model are nodes
+  pub welds-below : AllBelow (nodeCount c) (weldedAll c t)
+  unfolding weldedAll welded
+  welds-below = go (eq t zero64)
+    where
+      go : (b : Bool) → AllBelow n (cond b (upFrom 0 n) (spread gs (upFrom 0 n)))
+      go true = below-upFrom n 0 n (omega arith)
+      go false =
+          below-spread n gs (upFrom 0 n) (groups-below c t n (λ k. false) (sort (beforeOf c) (upFrom 0 n)) (below-sort (beforeOf c) n (upFrom 0 n) (below-upFrom n 0 n (omega arith))))
+          (below-upFrom n 0 n (omega arith))
+
+  -- there are as many as nodes
+  pub welds-long : length (weldedAll c t) ≡ nodeCount c
+  unfolding weldedAll welded
+  welds-long = go (eq t zero64)
+    where
+      go : (b : Bool) → length (cond b (upFrom 0 n) (spread gs (upFrom 0 n))) ≡ n
+      go true = length-upFrom 0 n
+      go false = length-spread gs (upFrom 0 n) ∙ length-upFrom 0 n
