@@ -99,6 +99,10 @@ module _ (p : Places) (w : List ℕ) (laid : Laid p (input p w)) (room : Room p 
       let e : length ys ≡ p .nodes + 2 + length (indexOf p t₀) = length-append (offsetsOf p t₀) (indexOf p t₀) ∙ omega (arith, offsets-long) in
       (e, omega (arith, index-long, room .index-at, room .found-at, room .ends))
 
+  -- before `found`
+  pub index-before : o + length ys ≤ p .found
+  index-before = omega (arith, all-long .0, index-long, room .index-at, room .found-at)
+
   -- what a search reads is whole
   base-long : length (base p v) ≡ p .found
   base-long = length-take-le (p .found) v (omega (arith, length-sets w o ys, room .ends))

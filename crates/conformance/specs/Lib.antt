@@ -1,0 +1,2 @@
+-- For internal contracts: the findings of a model, kind by kind.
+pub mod Found
