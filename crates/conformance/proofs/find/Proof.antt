@@ -1,52 +1,71 @@
+-- `conformance::find` meets its contract.
+use mathlib.Core.Path.{sym, _∙_}
+use native.Mathlib.Omega.{arith}
 use borrow.Author.Needs.{needs}
+use borrow.Author.Tests.{not-true, not-false}
+use Rattle.index.specs.Faces.{input}
+use Rattle.mesh.specs.Model.{modelOf}
+use Rattle.conformance.proofs.Whole.{all-first, all-both}
 use Rattle.conformance.proofs.find.Statement.{statement}
 use Rattle.conformance.proofs.find.Tie as tie
-use Rattle.conformance.proofs.find.Reads as reads
-use Rattle.conformance.proofs.find.Lts as lts
-use Rattle.conformance.proofs.find_butterflies.Reads as find-butterflies-reads
-use Rattle.conformance.proofs.find_topology.Reads as find-topology-reads
-use Rattle.mesh.proofs.Checks.contains.Reads as contains-reads
-use Rattle.model_tables.proofs.build_tables.Reads as build-tables-reads
 
--- src/lib.rt:77:9
 build-tables-requires : tie.Need-build-tables-requires
 build-tables-requires c κs = search needs
 
--- src/lib.rt:78:9
 find-butterflies-requires : tie.Need-find-butterflies-requires
-find-butterflies-requires c κs = search needs
+find-butterflies-requires c κs =
+    let b = c .before .before .before .before .before .before .before .before .before .before .before .before in
+    let a = b .args in
+    let m = modelOf (a .coords .now) (a .kinds .now) (a .ends .now) (a .words .now) (a .tol) (a .checks .0) 0 in
+    let x = c .before .before .before .before .build-tables in
+    let built = x .ensures in
+    (built .faced, (built .spaced .few-cells, b .pre .1))
 
--- src/lib.rt:79:9
 contains-requires : tie.Need-contains-requires
 contains-requires c κs = search needs
 
--- src/lib.rt:80:9
 same-length : tie.Need-same-length
 same-length c = search needs
 
--- src/lib.rt:80:9
 same-length-2 : tie.Need-same-length-2
 same-length-2 c = search needs
 
--- src/lib.rt:80:9
 returns : tie.Need-returns
-returns c = ?
+returns c =
+    let b = c .before .before .before .before .before .before .before .before .before .before .before .before .before .before .before .before .before in
+    let a = b .args in
+    let m = modelOf (a .coords .now) (a .kinds .now) (a .ends .now) (a .words .now) (a .tol) (a .checks .0) 0 in
+    let x = c .before .before .before .before .before .before .before .before .before .build-tables in
+    let built = x .ensures in
+    let y = c .before .before .before .before .find-butterflies in
+    all-first m (x .result) (input (x .result .at) (x .last .1 .1 .1 .1 .1 .1 .0)) (built .shows) (a .room) (y .result) (a .findings .now) (y .last .1 .1 .1 .0) (y .ensures .0) (sym (c .before .contains .ensures) ∙ not-true (c .before .contains .result) (c .if1 .taken))
 
--- src/lib.rt:82:5
 find-topology-requires : tie.Need-find-topology-requires
-find-topology-requires c κs = ?
+find-topology-requires c κs =
+    let b = c .before .before .before .before .before .before .before .before .before .before .before .before .before .before .before .before .before .before .before in
+    let a = b .args in
+    let m = modelOf (a .coords .now) (a .kinds .now) (a .ends .now) (a .words .now) (a .tol) (a .checks .0) 0 in
+    let x = c .before .before .before .before .before .before .before .before .before .before .before .build-tables in
+    let built = x .ensures in
+    let y = c .before .before .before .before .before .before .find-butterflies in
+    (record { accepted = b .pre .0 .0; built = built }, (omega (arith, b .pre .1, y .kept .1 .1 .1 .0), y .ensures .1))
 
--- src/lib.rt:61:1
 same-length-3 : tie.Need-same-length-3
 same-length-3 c = search needs
 
--- src/lib.rt:61:1
 same-length-4 : tie.Need-same-length-4
 same-length-4 c = search needs
 
--- src/lib.rt:61:1
 returns-2 : tie.Need-returns-2
-returns-2 c = ?
+returns-2 c =
+    let b = c .before .before .before .before .before .before .before .before .before .before .before .before .before .before .before .before .before .before .before .before .before .before .before .before in
+    let a = b .args in
+    let m = modelOf (a .coords .now) (a .kinds .now) (a .ends .now) (a .words .now) (a .tol) (a .checks .0) 0 in
+    let x = c .before .before .before .before .before .before .before .before .before .before .before .before .before .before .before .before .build-tables in
+    let built = x .ensures in
+    let y = c .before .before .before .before .before .before .before .before .before .before .before .find-butterflies in
+    let z = c .before .before .before .before .find-topology in
+    all-both m (x .result) (input (x .result .at) (x .last .1 .1 .1 .1 .1 .1 .0)) (built .shows) (a .room) (y .result) (a .findings .now) (y .last .1 .1 .1 .0) (y .ensures .0) (z .last .1 .1 .1 .1 .1 .1 .1 .1 .0) (z .result) (sym (c .before .before .before .before .before .before .before .before .contains .ensures) ∙ not-false (c .before .before .before .before .before .before .before .before .contains .result) (c .before .before .before .before .before .before .before .if1 .left)) (z .ensures .0)
 
 pub find-spec : {M : Type 1} → statement M
 find-spec =

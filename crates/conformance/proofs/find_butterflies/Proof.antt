@@ -1,30 +1,35 @@
+-- `conformance::find_butterflies` meets its contract.
+use Prim.Native.Nat.{ℕ, _≤_}
+use mathlib.Core.Path.{_≡_, sym, ap, _∙_, subst}
+use mathlib.Core.Bool.{Bool}
+use mathlib.Core.List.{List, []}
+use native.Mathlib.Omega.{arith}
 use borrow.Author.Needs.{needs}
+use borrow.Author.Tests.{not-true, not-false}
+use Rattle.index.specs.Faces.{input}
+use Rattle.conformance.proofs.Whole.{butterflies-none, butterflies-some}
 use Rattle.conformance.proofs.find_butterflies.Statement.{statement}
 use Rattle.conformance.proofs.find_butterflies.Tie as tie
-use Rattle.conformance.proofs.find_butterflies.Reads as reads
-use Rattle.conformance.proofs.find_butterflies.Lts as lts
-use Rattle.all_cells.proofs.keep_bows.Reads as keep-bows-reads
-use Rattle.mesh.proofs.Checks.contains.Reads as contains-reads
 
--- src/lib.rt:28:9
 contains-requires : tie.Need-contains-requires
 contains-requires c κs = search needs
 
--- src/lib.rt:29:9
 returns : tie.Need-returns
-returns c = ?
+returns c =
+    let a = c .before .before .before .before .args in
+    (butterflies-none (a .checks .0) (a .l) (input (a .l .at) (a .work .now)) (a .room) (a .findings .now) (sym (c .before .contains .ensures) ∙ not-true (c .before .contains .result) (c .if1 .taken)), omega arith)
 
--- src/lib.rt:31:5
 keep-bows-requires : tie.Need-keep-bows-requires
 keep-bows-requires c κs = search needs
 
--- src/lib.rt:16:1
 same-length : tie.Need-same-length
 same-length c = search needs
 
--- src/lib.rt:16:1
 returns-2 : tie.Need-returns-2
-returns-2 c = ?
+returns-2 c =
+    let a = c .before .before .before .before .before .before .before .before .args in
+    let y = c .before .before .keep-bows in
+    (butterflies-some (a .checks .0) (a .l) (input (a .l .at) (a .work .now)) (a .room) (a .findings .now) (y .last .1 .1 .0) (y .result) (sym (c .before .before .before .before .before .contains .ensures) ∙ not-false (c .before .before .before .before .before .contains .result) (c .before .before .before .before .if1 .left)) (y .ensures .0), omega (arith, y .ensures .1))
 
 pub find-butterflies-spec : {M : Type 1} → statement M
 find-butterflies-spec =
