@@ -66,8 +66,8 @@ take-least k l = go (split k (length l))
     go (inl h) = let e : k ≡ min k (length l) = omega (arith, h) in ap (λ (i : ℕ). take i l) e
     go (inr h) = let e : length l ≡ min k (length l) = omega (arith, h) in take-all k l h ∙ sym (take-all (length l) l (omega arith)) ∙ ap (λ (i : ℕ). take i l) e
 
-module _ (m : Model) (findings findings' work part : List ℕ) (room total kept need : ℕ) (ok : checkRefusal m work ≡ 0)
-         (room-is : room ≡ min (m .cap) (length findings / 64)) (found : KeptBy m room 0 (fullOf m) findings findings' total) (kept-is : kept ≡ min room total) where
+module _ (m : Model) (findings findings' work : List ℕ) (room total kept : ℕ) (ok : checkRefusal m work ≡ 0)
+    (room-is : room ≡ min (m .cap) (length findings / 64)) (found : KeptBy m room 0 (fullOf m) findings findings' total) (kept-is : kept ≡ min room total) where
   total-is : total ≡ length (fullOf m)
   total-is = omega (arith, found .count)
 
@@ -95,3 +95,30 @@ module _ (m : Model) (findings findings' work part : List ℕ) (room total kept 
   -- so a report is as promised
   pub checked-so : (work' : List ℕ) → work' ≡ replicate (workNeeded m) 0 ++ drop (length (replicate {A = ℕ} (workNeeded m) 0)) work → Checking m findings findings' work work' (Report total kept)
   checked-so work' e = record { answered = rw (ok, totals-are); findingsAre = bytes-are ∙ rw ok; workIs = e ∙ rw ok }
+
+-- ---- the cap: acceptance, work and findings do not look at it
+
+module _ (coords : List Float) (kinds ends words : List ℕ) (tol : Float) (flags cap : ℕ) where
+  pub cap-refusal : modelRefusal (modelOf coords kinds ends words tol flags 0) ≡ modelRefusal (modelOf coords kinds ends words tol flags cap)
+  unfolding modelRefusal shapeOff cellsOf
+  cap-refusal = refl
+
+  pub cap-work : workNeeded (modelOf coords kinds ends words tol flags 0) ≡ workNeeded (modelOf coords kinds ends words tol flags cap)
+  unfolding workNeeded facesIn cellsOf
+  cap-work = refl
+
+  pub cap-kept : (room k : ℕ) (f g : List ℕ) → KeptBy (modelOf coords kinds ends words tol flags 0) room 0 (fullOf (modelOf coords kinds ends words tol flags 0)) f g k
+      → KeptBy (modelOf coords kinds ends words tol flags cap) room 0 (fullOf (modelOf coords kinds ends words tol flags cap)) f g k
+  unfolding rulesOf fullOf cellsIn cellsOf
+  cap-kept room k f g p = p
+
+-- ---- the work ends zero
+
+pub work-zero : (work part work' : List ℕ) (need : ℕ) → need ≤ length work → length part ≡ need → work' ≡ sets (part ++ drop need work) 0 (replicate need 0)
+    → work' ≡ replicate need 0 ++ drop (length (replicate {A = ℕ} need 0)) work
+work-zero work part work' need h e p =
+    let zeros = length-replicate {A = ℕ} need 0 in
+    let long : length (part ++ drop need work) ≡ length work = length-append part (drop need work) ∙ omega (arith, e, length-drop need work, h) in
+    p
+    ∙ sets-front (part ++ drop need work) (replicate need 0) (omega (arith, zeros, long, h))
+    ∙ ap (λ (l : List ℕ). replicate need 0 ++ l) (ap (λ (k : ℕ). drop k (part ++ drop need work)) (zeros ∙ sym e) ∙ drop-append-seam part (drop need work) ∙ ap (λ (k : ℕ). drop k work) (sym zeros))

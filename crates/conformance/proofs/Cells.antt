@@ -71,6 +71,6 @@ cells-in m l t ok S =
       order = A .ends;
       words = S .words;
       known = λ c h. subst (λ (n : ℕ). AllBelow n (nodesIn (getD (cellsOf m) c none .words))) (sym (S .nodes))
-      (nodes-low (nodeCount (m .coords)) (getD (cellsOf m) c none .kind) (getD (cellsOf m) c none .words)
-      (right-words (nodeCount (m .coords)) (getD (cellsOf m) c none) (any-at (cellWrong (nodeCount (m .coords))) (cellsOf m) c none (A .right) (omega (arith, h, long)))));
+          (nodes-low (nodeCount (m .coords)) (getD (cellsOf m) c none .kind) (getD (cellsOf m) c none .words)
+          (right-words (nodeCount (m .coords)) (getD (cellsOf m) c none) (any-at (cellWrong (nodeCount (m .coords))) (cellsOf m) c none (A .right) (omega (arith, h, long)))));
     }

@@ -86,12 +86,13 @@ returns c =
     let f = a .findings .now in
     let g = y .last .1 .1 .1 .0 in
     let h = z .last .1 .1 .1 .1 .1 .0 in
-    let e = r .last .1 .1 .1 .1 .1 .1 .0 in
-    (three-kept m (a .room) (a .n) (y .result) (z .result) (r .result) f g h e
-    (overs-kept m (a .l) (input (a .l .at) v) S1 (a .room) (a .n) (y .result) f g (y .ensures .0))
-    (pairs-kept m (a .l) (input (a .l .at) v) S1 (a .room) (y .result) (z .result) g h (z .ensures .0))
-    (repeats-kept m (a .l) (input (a .l .at) (z .last .1 .1 .0)) S2 (a .room) (z .result) (r .result) h e (r .ensures .0)),
-    omega (arith, b .pre .1 .1, y .ensures .1, z .ensures .1 .0, r .ensures .1 .0))
+    let e = r .last .1 .1 .1 .1 .1 .1 .0 in (
+      three-kept m (a .room) (a .n) (y .result) (z .result) (r .result) f g h e
+          (overs-kept m (a .l) (input (a .l .at) v) S1 (a .room) (a .n) (y .result) f g (y .ensures .0))
+          (pairs-kept m (a .l) (input (a .l .at) v) S1 (a .room) (y .result) (z .result) g h (z .ensures .0))
+          (repeats-kept m (a .l) (input (a .l .at) (z .last .1 .1 .0)) S2 (a .room) (z .result) (r .result) h e (r .ensures .0)),
+      omega (arith, b .pre .1 .1, y .ensures .1, z .ensures .1 .0, r .ensures .1 .0),
+    )
 
 pub find-topology-spec : {M : Type 1} → statement M
 find-topology-spec =
