@@ -1,0 +1,2 @@
+-- What a run of the program does to what it is lent.
+pub mod Running
