@@ -1,9 +1,9 @@
 -- The text of what the check answers is that of the model.
 use Prim.Native.Nat.{ℕ, _*_, _-_, _≤_}
-use mathlib.Core.Path.{_≡_, refl, sym, ap, ap₂, _∙_, subst}
+use mathlib.Core.Path.{_≡_, sym, ap, ap₂, _∙_, subst}
 use mathlib.Core.Logic.{_⊎_, inl, inr, _≢_}
 use mathlib.Core.Bool.{Bool, true, false, cond}
-use mathlib.Core.List.{List, [], _∷_, _++_, map, List·Memᴰ, Memᴰ·append-left}
+use mathlib.Core.List.{List, [], _∷_, map, List·Memᴰ, Memᴰ·append-left}
 use native.Mathlib.Nat.{sub-zero}
 use native.Mathlib.Omega.{arith}
 use borrow.Author.Tests.{eqb-true, eqb-false, eq-eqb, ne-eqb}
@@ -21,8 +21,7 @@ use Rattle.mesh.specs.Acceptance.{modelTable, modelRefusal, checkTable, workNee
 use Rattle.findings.specs.Findings.{Finding}
 use Rattle.findings.specs.Rules.{rulesOf, fullOf}
 use Rattle.findings.specs.Records.{Fields, fieldsOf, recordOf, keptBytes}
-use Rattle.findings.specs.Check.{Totals, totalsOf, checkRefusal, checkTold, Checking}
-use Rattle.findings.specs.Demand3.{Below}
+use Rattle.findings.specs.Check.{Totals, totalsOf, checkRefusal, Checking}
 use Rattle.findings.specs.declared.CheckAnswer.{CheckAnswer}
 use Rattle.findings.specs.declared.CheckAnswer.the-variants.{Refused, Report}
 use Rattle.findings.proofs.Kept.{records-64, lent-length, report-is}
@@ -31,7 +30,8 @@ use Rattle.report.specs.Text.{refusedLine, reportText}
 use Rattle.report.specs.Program.{reportOf}
 use Rattle.report_text.specs.Stored.{Stored, fieldsKept}
 use Rattle.report_text.proofs.Reports.{kept-back}
-use Rattle.program.specs.Running.{textOf, Keeps, checkedRefusal, modelText, keptIn, Reporting}
+use Rattle.program.specs.Running.{keptIn}
+use Rattle.program.specs.Steps.{textOf, Keeps, checkedRefusal, modelText, Reporting}
 
 -- ---- answers
 

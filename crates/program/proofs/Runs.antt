@@ -1,20 +1,19 @@
 -- A whole run: a long input, a file that reading refuses, and a model that is checked.
 use Prim.Native.Nat.{ℕ, _*_, _≤_, _<_}
-use mathlib.Core.Path.{_≡_, refl, sym, ap, _∙_, subst}
+use mathlib.Core.Path.{_≡_, sym, ap, _∙_, subst}
 use mathlib.Core.Logic.{_⊎_, inl, inr, _≢_}
 use mathlib.Core.Bool.{Bool, true, false, cond}
 use mathlib.Core.List.{List, [], _∷_, _++_}
 use native.Mathlib.Omega.{arith}
-use borrow.Author.Tests.{eqb-true, eqb-false, eq-eqb, ne-eqb, lt-ltb, le-ltb}
-use lib.Dec.{eqb, ltb}
+use borrow.Author.Tests.{eqb-true, eqb-false, ne-eqb, lt-ltb, le-ltb}
+use lib.Dec.{eqb}
 use lib.Ieee.{Float}
 use lib.ListN.{length, take, drop, replicate, length-append}
 use lib.Seq.{take-at}
 use Rattle.laws.specs.Limits.{inputLimit, programWork}
 use Rattle.laws.specs.Refusals.{refusal, filled}
 use Rattle.laws.proofs.Tables.{Numbered, refusal-first, refusal-second}
-use Rattle.laws.proofs.Tests.{tested, split}
-use Rattle.geometry.specs.Coordinates.{nodeCount}
+use Rattle.laws.proofs.Tests.{tested}
 use Rattle.mesh.specs.Model.{Model, modelOf}
 use Rattle.mesh.specs.Acceptance.{checkTable, workNeeded}
 use Rattle.model_file.specs.Records.{letter, stage}
@@ -26,9 +25,10 @@ use Rattle.model_file.specs.declared.ReadAnswer.{ReadAnswer}
 use Rattle.model_file.specs.declared.ReadAnswer.the-variants.{Refused, Read}
 use Rattle.model_read.proofs.FillPass.{ends-as-cells}
 use Rattle.report.specs.Text.{refusedLine}
-use Rattle.report.specs.Program.{programTable, reportOf, output}
+use Rattle.report.specs.Program.{reportOf, output}
 use Rattle.report_text.specs.Stored.{Stored}
-use Rattle.program.specs.Running.{checkedRefusal, modelText, keptIn, Parts, Reporting, Lists, inputRefusal, programRefusal, Running}
+use Rattle.program.specs.Running.{keptIn, Lists, inputRefusal, programRefusal, Running}
+use Rattle.program.specs.Steps.{checkedRefusal, modelText, Parts, Reporting}
 use Rattle.program.proofs.Answers.{answered-done, answered-refused}
 use Rattle.program.proofs.Sizes.{threes, room}
 
@@ -153,31 +153,37 @@ module _ (s : List ℕ) (coords coords' : List Float) (kinds kinds' ends ends' w
   file-right : refusal (fileTable s) ≡ 0
   file-right = sym (reads-as s coords kinds ends words l h) ∙ found .0
 
-  -- the lists
+  -- the coordinates stand in front of their list
   coords-front : coords' ≡ decode s .coords ++ drop (length (decode s .coords)) coords
   coords-front = in-front (readRefusal s coords kinds ends words) (decode s .coords) coords coords' (found .0) (c .coordsAre)
 
+  -- the kinds of theirs
   kinds-front : kinds' ≡ decode s .kinds ++ drop (length (decode s .kinds)) kinds
   kinds-front = in-front (readRefusal s coords kinds ends words) (decode s .kinds) kinds kinds' (found .0) (c .kindsAre)
 
+  -- the ends of theirs
   ends-front : ends' ≡ decode s .ends ++ drop (length (decode s .ends)) ends
   ends-front = in-front (readRefusal s coords kinds ends words) (decode s .ends) ends ends' (found .0) (c .endsAre)
 
+  -- the words of theirs
   words-front : words' ≡ decode s .words ++ drop (length (decode s .words)) words
   words-front = in-front (readRefusal s coords kinds ends words) (decode s .words) words words' (found .0) (c .wordsAre)
 
-  -- how long each is
+  -- the nodes found are all coordinates, in threes
   coords-count : 3 * f .nodes ≡ length (decode s .coords)
   unfolding decode
   coords-count = omega (arith, ap (λ (x : Found). x .nodes) (found .1), threes (records s))
 
+  -- the cells found are the kinds
   kinds-count : f .cells ≡ length (decode s .kinds)
   kinds-count = ap (λ (x : Found). x .cells) (found .1)
 
+  -- and the ends
   ends-count : f .cells ≡ length (decode s .ends)
   unfolding decode
   ends-count = kinds-count ∙ sym (ends-as-cells (records s) (records-right (lengthOff (length s)) (judge 0 (records s)) file-right))
 
+  -- the words found are all words
   words-count : f .words ≡ length (decode s .words)
   words-count = ap (λ (x : Found). x .words) (found .1)
 

@@ -1,8 +1,8 @@
 -- What a file of at most 1,024 records decodes to, three coordinates, a cell or 14 words a record; and arrays of the sizes lent.
-use Prim.Native.Nat.{ℕ, zero, suc, _+_, _*_, _/_, _%_, _≤_}
-use mathlib.Core.Path.{_≡_, refl, sym, ap, _∙_}
-use mathlib.Core.Bool.{Bool, true, false, _||_}
-use mathlib.Core.List.{List, [], _∷_, _++_}
+use Prim.Native.Nat.{ℕ, zero, suc, _*_, _/_, _%_, _≤_}
+use mathlib.Core.Path.{_≡_, refl, ap}
+use mathlib.Core.Bool.{false}
+use mathlib.Core.List.{List, [], _∷_}
 use native.Mathlib.Omega.{arith}
 use borrow.Author.Tests.{le-ltb}
 use lib.Dec.{ltb}
@@ -73,7 +73,7 @@ room s coords kinds ends words l h j =
 -- ---- arrays of the sizes that the program lends
 
 -- an array of n elements is as long as that
-long-enough : {A : Type 0} (n : ℕ) (x : A) → n ≤ length (replicate n x)
+pub long-enough : {A : Type 0} (n : ℕ) (x : A) → n ≤ length (replicate n x)
 long-enough n x = omega (arith, length-replicate n x)
 
 -- lists large enough

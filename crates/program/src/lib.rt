@@ -1,11 +1,11 @@
 // The program: from the bytes of standard input to those of standard output.
-ghost use mathlib.Core.Path.{_≡_};
 ghost use Prim.Native.Nat.{_*_, _≤_};
 ghost use lib.ListN.{length, take};
 ghost use Rattle.mesh.specs.Model.{modelOf};
 ghost use Rattle.report.specs.Program.{output};
 ghost use Rattle.report_text.specs.Stored.{Stored};
-ghost use Rattle.program.specs.Running.{textOf, Keeps, Parts, Memory, Reporting, Lists, Running};
+ghost use Rattle.program.specs.Running.{Memory, Lists, Running};
+ghost use Rattle.program.specs.Steps.{textOf, Keeps, Parts, Reporting};
 use findings::CheckAnswer;
 use model_file::Found;
 use model_file::ReadAnswer;
