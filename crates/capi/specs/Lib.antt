@@ -1,0 +1,2 @@
+-- What the exported check promises.
+pub mod Exported

@@ -1,0 +1,398 @@
+/* Times the check on the largest models of document 01.
+ *
+ *   bench              a line for each model, tolerance and cap: best of five calls, in milliseconds
+ *   bench --write DIR  writes the models as files into DIR, to time another checker on the same ones
+ *
+ * Before each call the lent work and findings are filled with 170, and that is not timed. After it the answer, the total and the lent
+ * memory are compared with what is promised; the driver ends with 1 where something differs. */
+#include <math.h>
+#include <stddef.h>
+#include <stdint.h>
+#include <stdio.h>
+#include <stdlib.h>
+#include <string.h>
+#include <time.h>
+
+/* Crate capi. A slice is a pointer and a length. Answers 0 or a refusal's number; total and kept are written only where it is 0. */
+uint32_t lenoshale_check(const double *coords, size_t coords_len, const uint8_t *kinds, size_t kinds_len, const uint32_t *ends,
+                         size_t ends_len, const uint32_t *words, size_t words_len, double tolerance, uint8_t flags, uint32_t cap,
+                         uint8_t *findings, size_t findings_len, uint32_t *work, size_t work_len, uint64_t *total, uint64_t *kept);
+
+enum { TET4 = 1, HEX8 = 2, WEDGE6 = 3, PHED = 4 };
+enum { NODES = 65535, CELLS = 16384, WORDS = 262144, RING = 64, RECORDS = 65535, RECORD = 64, RUNS = 5, FILL = 170 };
+static const uint32_t SEPARATOR = 4294967295u;
+
+/* ---- the model being built */
+
+static double coords[3 * NODES];
+static uint8_t kinds[CELLS];
+static uint32_t ends[CELLS];
+static uint32_t words[WORDS];
+static size_t nodes, cells, count;
+
+static void over(const char *what) {
+    fprintf(stderr, "bench: a model has too many %s\n", what);
+    exit(2);
+}
+
+static uint32_t put_node(double x, double y, double z) {
+    if (nodes == NODES) over("nodes");
+    coords[3 * nodes] = x;
+    coords[3 * nodes + 1] = y;
+    coords[3 * nodes + 2] = z;
+    return (uint32_t)nodes++;
+}
+
+static void put_word(uint32_t w) {
+    if (count == WORDS) over("words");
+    words[count++] = w;
+}
+
+/* The words put since the last cell become a cell. */
+static void end_cell(uint8_t kind) {
+    if (cells == CELLS) over("cells");
+    kinds[cells] = kind;
+    ends[cells++] = (uint32_t)count;
+}
+
+static void put_cell(uint8_t kind, const uint32_t *w, size_t n) {
+    for (size_t i = 0; i < n; i++) put_word(w[i]);
+    end_cell(kind);
+}
+
+/* A ring of the polyhedron whose words start at `from`. */
+static void put_ring(size_t from, const uint32_t *w, size_t n) {
+    if (count > from) put_word(SEPARATOR);
+    for (size_t i = 0; i < n; i++) put_word(w[i]);
+}
+
+/* ---- grids: whole coordinates */
+
+/* The node at a place of a grid of so many cells. */
+static uint32_t at(const size_t *n, size_t x, size_t y, size_t z) { return (uint32_t)((z * (n[1] + 1) + y) * (n[0] + 1) + x); }
+
+static void put_grid_nodes(const size_t *n) {
+    for (size_t z = 0; z <= n[2]; z++)
+        for (size_t y = 0; y <= n[1]; y++)
+            for (size_t x = 0; x <= n[0]; x++) put_node((double)x, (double)y, (double)z);
+}
+
+/* The corners of one box of a grid, in a hexahedron's order. */
+static void corners(const size_t *n, size_t x, size_t y, size_t z, uint32_t *h) {
+    static const size_t step[4][2] = {{0, 0}, {1, 0}, {1, 1}, {0, 1}};
+    for (size_t i = 0; i < 8; i++) h[i] = at(n, x + step[i % 4][0], y + step[i % 4][1], z + i / 4);
+}
+
+static void cut_none(const uint32_t *h) { put_cell(HEX8, h, 8); }
+
+/* Six tetrahedra around the diagonal from corner 0 to corner 6. */
+static void cut_tets(const uint32_t *h) {
+    static const uint8_t cut[6][4] = {{0, 1, 2, 6}, {0, 1, 5, 6}, {0, 3, 2, 6}, {0, 3, 7, 6}, {0, 4, 5, 6}, {0, 4, 7, 6}};
+    for (size_t i = 0; i < 6; i++) {
+        uint32_t t[4] = {h[cut[i][0]], h[cut[i][1]], h[cut[i][2]], h[cut[i][3]]};
+        put_cell(TET4, t, 4);
+    }
+}
+
+/* Two wedges, cut along the diagonal from corner 1 to corner 3. */
+static void cut_wedges(const uint32_t *h) {
+    uint32_t a[6] = {h[0], h[1], h[3], h[4], h[5], h[7]}, b[6] = {h[1], h[2], h[3], h[5], h[6], h[7]};
+    put_cell(WEDGE6, a, 6);
+    put_cell(WEDGE6, b, 6);
+}
+
+static void grid(size_t nx, size_t ny, size_t nz, void (*cut)(const uint32_t *)) {
+    size_t n[3] = {nx, ny, nz};
+    uint32_t h[8];
+    put_grid_nodes(n);
+    for (size_t z = 0; z < nz; z++)
+        for (size_t y = 0; y < ny; y++)
+            for (size_t x = 0; x < nx; x++) {
+                corners(n, x, y, z, h);
+                cut(h);
+            }
+}
+
+static void hexahedra(void) { grid(32, 32, 16, cut_none); }
+static void tetrahedra(void) { grid(13, 14, 15, cut_tets); }
+static void wedges(void) { grid(16, 16, 32, cut_wedges); }
+
+/* ---- hubs: one node in nearly every face */
+
+/* A pyramid from node 0 over the square q; where `more`, one edge of it has a node that the neighbour's does not. */
+static void put_pyramid(const uint32_t *q, int more) {
+    size_t from = count;
+    uint32_t m = 0;
+    if (more) {
+        const double *a = coords + 3 * q[1], *b = coords + 3 * q[2];
+        m = put_node((a[0] + b[0]) / 2, (a[1] + b[1]) / 2, (a[2] + b[2]) / 2);
+    }
+    uint32_t base[5] = {q[0], q[1], m, q[2], q[3]};
+    put_ring(from, more ? base : q, more ? 5 : 4);
+    for (size_t s = 0; s < 4; s++) {
+        uint32_t a = q[s], b = q[(s + 1) % 4];
+        uint32_t side[3] = {0, b, a}, longer[4] = {0, b, m, a};
+        if (more && s == 1) put_ring(from, longer, 4);
+        else put_ring(from, side, 3);
+    }
+    end_cell(PHED);
+}
+
+/* 12,945 pyramids over squares of a sphere, around its centre; every eighth has one node more. */
+static void hub_pyramids(void) {
+    const size_t n = 12945, across = 114, down = (n + across - 1) / across, wide[3] = {across, down, 0};
+    put_node(0, 0, 0);
+    for (size_t j = 0; j <= down; j++)
+        for (size_t i = 0; i <= across; i++) {
+            double u = (double)i * 5 / (double)across, v = (double)j * 2 / (double)across - 1;
+            put_node(cos(v) * cos(u), cos(v) * sin(u), sin(v));
+        }
+    for (size_t c = 0; c < n; c++) {
+        size_t x = c % across, y = c / across;
+        uint32_t q[4] = {1 + at(wide, x, y, 0), 1 + at(wide, x + 1, y, 0), 1 + at(wide, x + 1, y + 1, 0), 1 + at(wide, x, y + 1, 0)};
+        put_pyramid(q, c % 8 == 7);
+    }
+}
+
+/* 16,384 tetrahedra, each with node 0 and three nodes of its own. */
+static void hub_tetrahedra(void) {
+    put_node(0, 0, 0);
+    for (size_t c = 0; c < CELLS; c++) {
+        double x = (double)(2 * (c % 128)) + 1, y = (double)(2 * (c / 128)) + 1;
+        uint32_t t[4] = {0, put_node(x, y, 1), put_node(x + 1, y, 1), put_node(x, y + 1, 1)};
+        put_cell(TET4, t, 4);
+    }
+}
+
+/* ---- one polyhedron of all words: 4,033 rings of 64 nodes */
+
+/* Layers of 64 nodes on a circle; half a ring's nodes are of one layer, the others of the same or one of the next three, so that no
+ * two rings have the same nodes. */
+static void one_cell(void) {
+    const size_t layers = NODES / RING, rings = (WORDS + 1) / (RING + 1);
+    for (size_t i = 0; i < layers * RING; i++) {
+        double turn = (double)(i % RING) / RING * 2 * acos(-1);
+        put_node(10 * cos(turn), 10 * sin(turn), (double)(i / RING));
+    }
+    for (size_t r = 0; r < rings; r++) {
+        uint32_t ring[RING];
+        for (size_t i = 0; i < RING; i++) {
+            size_t layer = (r + (i < RING / 2 ? 0 : r / layers)) % layers;
+            ring[i] = (uint32_t)(layer * RING + i);
+        }
+        put_ring(0, ring, RING);
+    }
+    end_cell(PHED);
+}
+
+/* ---- random cells over 60 nodes */
+
+static uint64_t seed;
+
+static uint32_t below(uint32_t n) {
+    seed = seed * 6364136223846793005u + 1442695040888963407u;
+    return (uint32_t)((seed >> 33) % n);
+}
+
+/* n unlike numbers below 60 */
+static void draw(uint32_t *w, size_t n) {
+    for (size_t i = 0; i < n;) {
+        size_t j = 0;
+        w[i] = below(60);
+        while (j < i && w[j] != w[i]) j++;
+        if (j == i) i++;
+    }
+}
+
+static void soup(void) {
+    const size_t n[3] = {4, 3, 2};
+    seed = 1;
+    put_grid_nodes(n);
+    for (size_t c = 0; c < CELLS; c++) {
+        uint32_t t[4];
+        draw(t, 4);
+        put_cell(TET4, t, 4);
+    }
+}
+
+/* ---- a tank under 16,256 hexahedra */
+
+/* The tank has a ring for each square below a hexahedron; of every eight squares two are one ring of six nodes, partly shared. */
+static void tank(void) {
+    const size_t n[3] = {128, 127, 1};
+    grid(n[0], n[1], n[2], cut_none);
+    size_t from = count;
+    for (size_t y = 0; y < n[1]; y++)
+        for (size_t x = 0; x < n[0]; x++) {
+            uint32_t q[4] = {at(n, x, y, 0), at(n, x + 1, y, 0), at(n, x + 1, y + 1, 0), at(n, x, y + 1, 0)};
+            uint32_t two[6] = {q[0], q[1], at(n, x + 2, y, 0), at(n, x + 2, y + 1, 0), q[2], q[3]};
+            int joined = x % 8 == 0;
+            put_ring(from, joined ? two : q, joined ? 6 : 4);
+            if (joined) x++;
+        }
+    end_cell(PHED);
+}
+
+/* ---- what is counted of a model */
+
+static size_t faces, ring_words;
+
+static void count_run(size_t run) {
+    if (run < 3) return;
+    faces++;
+    ring_words += run;
+}
+
+static void count_faces(void) {
+    static const size_t f[] = {0, 4, 6, 5}, r[] = {0, 12, 24, 18};
+    size_t start = 0;
+    faces = ring_words = 0;
+    for (size_t c = 0; c < cells; start = ends[c++]) {
+        if (kinds[c] != PHED) {
+            faces += f[kinds[c]];
+            ring_words += r[kinds[c]];
+            continue;
+        }
+        size_t run = 0;
+        for (size_t i = start; i < ends[c]; i++)
+            if (words[i] != SEPARATOR) run++;
+            else count_run(run), run = 0;
+        count_run(run);
+    }
+}
+
+static size_t work_needed(void) { return 8 * ring_words + 4 * faces + 8 * cells + 4 * nodes + 4 * count + 16; }
+
+/* ---- the models; totals are those of the Rust reference */
+
+typedef struct {
+    const char *name;
+    void (*build)(void);
+    uint64_t total;
+} Case;
+
+static const Case cases[] = {
+    {"hexahedra", hexahedra, 0},           {"tetrahedra", tetrahedra, 0}, {"wedges", wedges, 0},  {"hub_pyramids", hub_pyramids, 1590},
+    {"hub_tetrahedra", hub_tetrahedra, 0}, {"one_cell", one_cell, 0},     {"soup", soup, 10252}, {"tank", tank, 4064},
+};
+
+static const double tolerances[] = {0, 1e-6};
+static const uint32_t caps[] = {0, RECORDS};
+
+static void build(const Case *c) {
+    nodes = cells = count = 0;
+    c->build();
+    count_faces();
+}
+
+/* ---- timing */
+
+static double milliseconds(void) {
+    struct timespec t;
+    clock_gettime(CLOCK_MONOTONIC, &t);
+    return (double)t.tv_sec * 1e3 + (double)t.tv_nsec / 1e6;
+}
+
+/* Bytes from p on that are v. */
+static int all(const uint8_t *p, size_t n, uint8_t v) {
+    for (size_t i = 0; i < n; i++)
+        if (p[i] != v) return 0;
+    return 1;
+}
+
+/* What is wrong with an answer; 0 for nothing. */
+static const char *wrong(const Case *c, uint32_t answer, uint64_t total, uint64_t kept, uint32_t cap, const uint8_t *lent, const uint32_t *work) {
+    size_t need = 4 * work_needed();
+    if (answer != 0) return "refused";
+    if (total != c->total) return "another total";
+    if (kept != (total < cap ? total : cap)) return "another number kept";
+    if (!all((const uint8_t *)work, need, 0)) return "work not zero";
+    if (!all(lent + RECORD * kept, RECORD * (RECORDS - kept), FILL)) return "findings changed behind those kept";
+    return NULL;
+}
+
+static int measure(const Case *c, double tolerance, uint32_t cap, uint8_t *lent) {
+    size_t need = work_needed();
+    uint32_t *work = malloc(4 * need), answer = 0;
+    uint64_t total = 0, kept = 0;
+    double best = INFINITY;
+    if (work == NULL) over("words of work");
+    for (int run = 0; run < RUNS; run++) {
+        memset(work, FILL, 4 * need);
+        memset(lent, FILL, RECORD * RECORDS);
+        double start = milliseconds();
+        answer = lenoshale_check(coords, 3 * nodes, kinds, cells, ends, cells, words, count, tolerance, 3, cap, lent, RECORD * RECORDS, work,
+                                 need, &total, &kept);
+        double took = milliseconds() - start;
+        if (took < best) best = took;
+    }
+    const char *fault = wrong(c, answer, total, kept, cap, lent, work);
+    printf("%-15s %6zu %7zu %9g %6u", c->name, cells, faces, tolerance, cap);
+    if (answer == 0) printf(" %8llu %6llu", (unsigned long long)total, (unsigned long long)kept);
+    else printf("        refused %u", answer);
+    printf(" %10.2f%s%s\n", best, fault ? "  WRONG: " : "", fault ? fault : "");
+    fflush(stdout);
+    free(work);
+    return fault != NULL;
+}
+
+static int measure_all(void) {
+    uint8_t *lent = malloc(RECORD * RECORDS);
+    int faults = 0;
+    if (lent == NULL) over("findings");
+    printf("%-15s %6s %7s %9s %6s %8s %6s %10s\n", "model", "cells", "faces", "tolerance", "cap", "total", "kept", "ms");
+    for (size_t i = 0; i < sizeof cases / sizeof *cases; i++) {
+        build(&cases[i]);
+        for (size_t t = 0; t < 2; t++)
+            for (size_t k = 0; k < 2; k++) faults += measure(&cases[i], tolerances[t], caps[k], lent);
+    }
+    free(lent);
+    return faults != 0;
+}
+
+/* ---- model files (docs/FORMAT.md), on a little-endian machine */
+
+static void write_cell(FILE *f, size_t from, size_t to, uint8_t kind) {
+    for (size_t i = from; i == from || i < to; i += 14) {
+        uint8_t r[32] = {i == from ? 67 : 75, i == from ? kind : 0, (uint8_t)(to - i < 14 ? to - i : 14)};
+        for (size_t j = 0; j < r[2]; j++) {
+            r[4 + 2 * j] = (uint8_t)words[i + j];
+            r[5 + 2 * j] = (uint8_t)(words[i + j] >> 8);
+        }
+        fwrite(r, 32, 1, f);
+    }
+}
+
+static void write_model(FILE *f, double tolerance) {
+    for (size_t i = 0; i < nodes; i++) {
+        uint8_t r[32] = {78};
+        memcpy(r + 8, coords + 3 * i, 24);
+        fwrite(r, 32, 1, f);
+    }
+    for (size_t c = 0; c < cells; c++) write_cell(f, c == 0 ? 0 : ends[c - 1], ends[c], kinds[c]);
+    uint8_t last[32] = {84, 3, 255, 255};
+    memcpy(last + 8, &tolerance, 8);
+    fwrite(last, 32, 1, f);
+}
+
+static int write_all(const char *dir) {
+    for (size_t i = 0; i < sizeof cases / sizeof *cases; i++) {
+        build(&cases[i]);
+        for (size_t t = 0; t < 2; t++) {
+            char path[4096];
+            snprintf(path, sizeof path, "%s/%s-%g.bin", dir, cases[i].name, tolerances[t]);
+            FILE *f = fopen(path, "wb");
+            if (f == NULL) return perror(path), 2;
+            write_model(f, tolerances[t]);
+            if (fclose(f) != 0) return perror(path), 2;
+        }
+    }
+    return 0;
+}
+
+int main(int argc, char **argv) {
+    if (argc == 1) return measure_all();
+    if (argc == 3 && strcmp(argv[1], "--write") == 0) return write_all(argv[2]);
+    fprintf(stderr, "usage: bench [--write DIR]\n");
+    return 2;
+}
