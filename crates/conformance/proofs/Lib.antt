@@ -4,3 +4,4 @@ pub mod Shown
 pub mod Cells
 pub mod Whole
 pub mod Answers
+pub mod Demands
