@@ -35,7 +35,7 @@ below-all n g e =
 -- ---- the cell of a number
 
 module _ (b : Raw → Bool) where
-  -- the cell of number c is among cs, and passes
+  -- cs have a cell of number c that passes the test
   abbrev passes : ℕ → List Cell → Bool
   passes c cs = any (λ (d : Cell). eqb (d .num) c && b (d .raw)) cs
 
@@ -45,7 +45,7 @@ module _ (b : Raw → Bool) where
   before-all i n [] c h = refl
   before-all i n (x ∷ cs) c h = rw (ne-eqb i c (λ z. absurd (omega (arith, z, h)))) (before-all (suc i) (n + length (ringsOf x)) cs c (omega arith))
 
-  -- the cell k places after the first has the number k above its
+  -- of cells numbered from i on, the one of number i + k is at place k: its test is that of the cell there
   at-place : (i n : ℕ) (cs : List Raw) (k c : ℕ) → c ≡ i + k → k < length cs → passes c (numberFrom ringsOf i n cs) ≡ b (getD cs k none)
   unfolding numberFrom
   at-place i n [] k c e h = absurd (omega arith)
