@@ -4,3 +4,4 @@ pub mod Same
 pub mod Numbered
 pub mod OneCell
 pub mod AllCells
+pub mod Candidates
