@@ -3,21 +3,17 @@ use Prim.Native.Nat.{ℕ, _+_, _-_, _*_}
 use mathlib.Core.Path.{_≡_, refl, sym, ap, _∙_, subst}
 use mathlib.Core.Bool.{Bool, not}
 use mathlib.Core.List.{List, [], _∷_}
-use native.Mathlib.Omega.{arith}
 use native.Mathlib.Nat.{zero-add}
 use borrow.Author.Tests.{eq-eqb, ne-eqb}
-use lib.Dec.{eqb}
 use lib.ListN.{length, getD, take}
 use lib.Seq.{length-sets}
 use Rattle.laws.specs.Lists.{onlyIf, each, upFrom}
 use Rattle.geometry.specs.Points.{origin}
 use Rattle.findings.specs.Findings.{Rules, Finding, bowtie}
 use Rattle.findings.specs.Records.{fieldsOf, centreIn, recordOf}
-use Rattle.index.specs.Faces.{input, bowOf}
+use Rattle.index.specs.Faces.{input}
 use Rattle.records.specs.Keeping.{Kept}
-use Rattle.records.specs.Read.{told}
-use Rattle.records.specs.declared.Record.{Record}
-use Rattle.records.proofs.Keeping.{kept-none, kept-next}
+use Rattle.records.proofs.Keeping.{kept-next}
 use Rattle.layout.specs.declared.Layout.{Layout}
 use Rattle.layout.specs.Tables.{Standing, Still}
 use Rattle.layout.specs.ByCell.{bowCell}

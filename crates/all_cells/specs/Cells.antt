@@ -1,5 +1,5 @@
 -- For internal contracts: the words of a model's cells, and findings kept whatever the rules.
-use Prim.Native.Nat.{ℕ, _≤_, _<_}
+use Prim.Native.Nat.{ℕ, _<_}
 use mathlib.Core.Bool.{false}
 use mathlib.Core.List.{List}
 use mathlib.Core.Path.{_≡_}

@@ -1,13 +1,13 @@
 -- The table of the check, row by row, and its promise.
-use Prim.Native.Nat.{ℕ, zero, suc, _+_, _-_, _*_, _/_, _≤_, _<_, min}
-use mathlib.Core.Path.{_≡_, refl, sym, ap, ap₂, _∙_, subst}
+use Prim.Native.Nat.{ℕ, zero, _+_, _-_, _*_, _/_, _≤_, _<_, min}
+use mathlib.Core.Path.{_≡_, refl, sym, ap, ap₂, _∙_}
 use mathlib.Core.Logic.{_≢_, _⊎_, inl, inr}
-use mathlib.Core.Bool.{Bool, true, false}
+use mathlib.Core.Bool.{Bool}
 use mathlib.Core.List.{List, [], _∷_, _++_}
 use native.Mathlib.Omega.{arith}
 use borrow.Author.Tests.{lt-ltb, le-ltb, ne-eqb}
 use lib.Dec.{ltb}
-use lib.ListN.{length, take, drop, replicate, length-replicate, length-append, length-take, length-drop}
+use lib.ListN.{length, take, drop, replicate, length-replicate, length-append, length-drop}
 use lib.Seq.{sets, take-all, drop-append-seam}
 use lib.Ieee.{Float}
 use Rattle.laws.specs.Lists.{each}
@@ -15,20 +15,15 @@ use Rattle.laws.specs.Refusals.{refusal}
 use Rattle.laws.proofs.Stores.{sets-front}
 use Rattle.laws.proofs.Tables.{clear-append, refusal-first}
 use Rattle.laws.proofs.Tests.{split}
-use Rattle.geometry.specs.Coordinates.{nodeCount}
 use Rattle.mesh.specs.Model.{Model, modelOf, cellsOf}
 use Rattle.mesh.specs.Acceptance.{modelTable, modelRefusal, shapeOff, workNeeded, facesIn}
-use Rattle.mesh.specs.Steps.{ModelCounted}
-use Rattle.mesh.specs.declared.CellTally.{CellTally}
 use Rattle.mesh.proofs.Accepts.{accepted-clear}
-use Rattle.findings.specs.Findings.{Rules, Finding}
+use Rattle.findings.specs.Findings.{Finding}
 use Rattle.findings.specs.Rules.{rulesOf, cellsIn, fullOf}
 use Rattle.findings.specs.Records.{recordOf, keptOf, keptBytes}
-use Rattle.findings.specs.Check.{Totals, totalsOf, checkRefusal, checkTold, Checking}
-use Rattle.findings.specs.declared.CheckAnswer.{CheckAnswer}
+use Rattle.findings.specs.Check.{Totals, totalsOf, checkRefusal, Checking}
 use Rattle.findings.specs.declared.CheckAnswer.the-variants.{Refused, Report}
-use Rattle.findings.proofs.Kept.{records-64, kept-64, kept-fits}
-use Rattle.records.specs.Keeping.{Kept}
+use Rattle.findings.proofs.Kept.{kept-64, kept-fits}
 use Rattle.conformance.specs.Found.{KeptBy}
 
 -- ---- the rows

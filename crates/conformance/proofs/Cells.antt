@@ -1,5 +1,5 @@
 -- The cells of an accepted model: their words are nodes or separators.
-use Prim.Native.Nat.{ℕ, zero, suc, _≤_, _<_}
+use Prim.Native.Nat.{ℕ, zero, suc, _<_}
 use mathlib.Core.Path.{_≡_, refl, sym, ap, _∙_, subst}
 use mathlib.Core.Logic.{_⊎_, inl, inr}
 use mathlib.Core.Bool.{Bool, true, false, not, _&&_, _||_}
@@ -8,7 +8,7 @@ use native.Mathlib.Omega.{arith}
 use borrow.Author.Tests.{leb-false}
 use lib.Dec.{leb, ltb, eqb}
 use lib.ListN.{length, getD}
-use Rattle.laws.specs.Lists.{onlyIf, any, keep}
+use Rattle.laws.specs.Lists.{onlyIf, any}
 use Rattle.laws.specs.Merging.{AllBelow}
 use Rattle.laws.proofs.Tests.{tested, clash, or-none}
 use Rattle.geometry.specs.Coordinates.{nodeCount}

@@ -1,22 +1,22 @@
 -- The demands, for the check itself: over its promise `Checking` and over nothing else. The rest of demand 3 is in findings/proofs/Demand3.
 use Prim.Native.Nat.{ℕ, _<_}
-use mathlib.Core.Path.{_≡_, refl, sym, ap, _∙_, subst}
+use mathlib.Core.Path.{_≡_, sym, ap, _∙_}
 use mathlib.Core.Logic.{_≢_, _⊎_, inl, inr}
-use mathlib.Core.Bool.{Bool, true, false, cond}
+use mathlib.Core.Bool.{true, false}
 use mathlib.Core.List.{List, _++_}
 use native.Mathlib.Omega.{arith}
 use borrow.Author.Tests.{eqb-true, eqb-false}
 use lib.Dec.{eqb}
 use lib.ListN.{length, getD, drop, replicate, length-replicate}
 use Rattle.laws.specs.Lists.{keep}
-use Rattle.laws.specs.Refusals.{Answer, refused, done, refusal, answer}
+use Rattle.laws.specs.Refusals.{refused, done, refusal, answer}
 use Rattle.laws.proofs.Tests.{tested}
 use Rattle.mesh.specs.Model.{Model, contains, TOPOLOGY, cellsOf}
 use Rattle.mesh.specs.Acceptance.{workNeeded, checkTable}
 use Rattle.findings.specs.Rules.{rulesOf, fullOf}
 use Rattle.findings.specs.Compared.{none, namesPair}
 use Rattle.findings.specs.Demand3.{PartlyShared, Reported}
-use Rattle.findings.specs.Check.{Totals, totalsOf, checkRefusal, checkTold, Checking}
+use Rattle.findings.specs.Check.{Totals, totalsOf, checkRefusal, Checking}
 use Rattle.findings.specs.declared.CheckAnswer.{CheckAnswer}
 use Rattle.findings.specs.declared.CheckAnswer.the-variants.{Refused, Report}
 use Rattle.findings.proofs.Demand3.{pair-once, pair-never, report-says}

@@ -6,8 +6,8 @@ use lib.Ieee.{Float}
 use Rattle.laws.specs.Lists.{each, walk, upFrom}
 use Rattle.mesh.specs.Model.{Model, cellsOf}
 use Rattle.snap.specs.Weld.{weldedAll}
-use Rattle.findings.specs.Findings.{Rules, Finding, kind1, kind2, kind3, kind4}
-use Rattle.findings.specs.Rules.{rulesOf, rulesWith, cellsIn}
+use Rattle.findings.specs.Findings.{Finding, kind2, kind3, kind4}
+use Rattle.findings.specs.Rules.{rulesOf, cellsIn}
 use Rattle.findings.specs.Records.{recordOf}
 use Rattle.records.specs.Keeping.{Kept}
 use Rattle.records.proofs.Keeping.{kept-by}

@@ -1,11 +1,11 @@
 -- The full list: butterflies, where asked for, and topology, where asked for.
 use Prim.Native.Nat.{ℕ}
-use mathlib.Core.Path.{_≡_, refl, sym, ap, ap₂, _∙_, subst}
+use mathlib.Core.Path.{_≡_, refl, sym, ap, _∙_, subst}
 use mathlib.Core.Bool.{Bool, true, false}
 use mathlib.Core.List.{List, [], _++_, append-nil}
 use Rattle.laws.specs.Lists.{onlyIf, each, walk, upFrom}
 use Rattle.mesh.specs.Model.{Model, contains, TOPOLOGY, BUTTERFLY}
-use Rattle.findings.specs.Findings.{Rules, Finding, kind1, kind2, kind3, kind4, full}
+use Rattle.findings.specs.Findings.{Finding, kind1, kind2, kind3, kind4, full}
 use Rattle.findings.specs.Rules.{rulesOf, cellsIn, fullOf}
 use Rattle.records.specs.Keeping.{Kept}
 use Rattle.records.proofs.Keeping.{kept-none, kept-then}

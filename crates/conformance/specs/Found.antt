@@ -1,5 +1,5 @@
 -- For internal contracts: the findings of a model, kind by kind.
-use Prim.Native.Nat.{ℕ, _^_, _≤_}
+use Prim.Native.Nat.{ℕ}
 use mathlib.Core.List.{List, [], _++_}
 use mathlib.Core.Path.{_≡_}
 use Rattle.laws.specs.Lists.{onlyIf, each, walk, upFrom}

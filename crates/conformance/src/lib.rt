@@ -1,6 +1,6 @@
 // The check of a model: refused with a number, or all findings counted and the first of them kept.
 ghost use mathlib.Core.Path.{_≡_};
-ghost use Prim.Native.Nat.{_+_, _*_, _^_, _≤_, min};
+ghost use Prim.Native.Nat.{_*_, _^_, _≤_, min};
 ghost use lib.ListN.{length};
 ghost use Rattle.mesh.specs.Model.{modelOf};
 ghost use Rattle.mesh.specs.Acceptance.{modelRefusal, workNeeded};

@@ -5,7 +5,7 @@ use mathlib.Core.List.{List}
 use lib.ListN.{length, take, replicate}
 use lib.Seq.{take-take}
 use Rattle.laws.specs.Merging.{region}
-use Rattle.index.specs.Faces.{input, base, Indexed}
+use Rattle.index.specs.Faces.{input, Indexed}
 use Rattle.layout.specs.declared.Layout.{Layout}
 use Rattle.layout.specs.Tables.{Faced, Spaced, Standing, Still}
 

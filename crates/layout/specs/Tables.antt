@@ -7,7 +7,6 @@ use lib.ListN.{length, getD, take, replicate}
 use Rattle.laws.specs.Lists.{upFrom, sort}
 use Rattle.laws.specs.Merging.{region, AllBelow}
 use Rattle.mesh.specs.Rings.{Face, nodeSet}
-use Rattle.index.specs.declared.Places.{Places}
 use Rattle.index.specs.Faces.{input, base, cellOf, nodesOf, Laid, Indexed}
 use Rattle.layout.specs.declared.Layout.{Layout}
 

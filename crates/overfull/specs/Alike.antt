@@ -4,13 +4,9 @@ use mathlib.Core.Bool.{Bool, cond}
 use mathlib.Core.List.{List, [], _∷_}
 use lib.Dec.{ltb, eqb}
 use lib.ListN.{length, getD}
-use lib.Ieee.{Float}
 use Rattle.laws.specs.Lists.{keep, upFrom, eql}
-use Rattle.findings.specs.Findings.{Finding}
-use Rattle.records.specs.Keeping.{Kept}
 use Rattle.layout.specs.declared.Layout.{Layout}
 use Rattle.layout.specs.Tables.{keyRow, firstOf}
-use Rattle.layout.specs.ByCell.{plainRules}
 use Rattle.overfull.specs.declared.Tally.{Tally}
 
 -- faces g and h have the same key

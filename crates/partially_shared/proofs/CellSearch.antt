@@ -3,7 +3,7 @@ use Prim.Native.Nat.{ℕ, suc, _+_, _-_, _≤_, _<_}
 use mathlib.Core.Path.{_≡_, refl, sym, ap, ap₂, _∙_, subst}
 use mathlib.Core.List.{List, [], _∷_, _++_, append-nil}
 use native.Mathlib.Omega.{arith}
-use lib.ListN.{length, getD, replicate, getD-replicate}
+use lib.ListN.{getD, getD-replicate}
 use Rattle.laws.specs.Lists.{each, upFrom}
 use Rattle.laws.proofs.ListLaws.{each-append, upFrom-snoc}
 use Rattle.laws.proofs.Stores.{getD-region}

@@ -1,13 +1,13 @@
 -- The marked cells of a range, in turn.
-use Prim.Native.Nat.{ℕ, suc, _+_, _-_, _*_, _^_, _≤_, _<_}
+use Prim.Native.Nat.{ℕ, _+_, _-_, _≤_, _<_}
 use mathlib.Core.Path.{_≡_, refl, sym, ap, ap₂, _∙_, subst}
 use mathlib.Core.Logic.{_⊎_, inl, inr, _≢_}
 use mathlib.Core.Bool.{Bool, true, false, not}
-use mathlib.Core.List.{List, [], _∷_, _++_, append-nil}
+use mathlib.Core.List.{List, [], _∷_}
 use native.Mathlib.Omega.{arith}
 use borrow.Author.Tests.{eqb-true, eqb-false, eq-eqb, ne-eqb}
 use lib.Dec.{eqb}
-use lib.ListN.{length, getD, replicate, take, drop, set, length-set, length-replicate, getD-replicate}
+use lib.ListN.{length, getD, replicate, set, length-set, length-replicate, getD-replicate}
 use lib.Seq.{getD-set-same, getD-set-other, take-set-le, drop-set-lt, set-getD, ext-getD}
 use lib.Ieee.{Float}
 use Rattle.laws.specs.Lists.{onlyIf, each, upFrom}

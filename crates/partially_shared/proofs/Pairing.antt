@@ -1,25 +1,24 @@
 -- The marks tell the partly shared pairs of the definition.
 use Prim.Native.Nat.{ℕ, zero, suc, _+_, _-_, _≤_, _<_}
-use mathlib.Core.Path.{_≡_, refl, sym, ap, ap₂, _∙_, subst}
-use mathlib.Core.Logic.{_⊎_, inl, inr, _≢_}
+use mathlib.Core.Path.{_≡_, refl, sym, ap, ap₂, _∙_}
+use mathlib.Core.Logic.{_⊎_, inl, inr}
 use mathlib.Core.Bool.{Bool, true, false, not, _&&_}
-use mathlib.Core.List.{List, [], _∷_, _++_, map, append-nil, append-assoc, map-map}
+use mathlib.Core.List.{List, [], _∷_, _++_, map, map-map}
 use native.Mathlib.Omega.{arith}
-use borrow.Author.Tests.{leb-true, ltb-true, eqb-true, eqb-false, lt-ltb, le-leb, ne-eqb, not-true}
+use borrow.Author.Tests.{leb-true, ltb-true, eqb-true, lt-ltb, le-leb, ne-eqb}
 use lib.Dec.{leb, ltb, eqb}
-use lib.ListN.{length, getD}
 use Rattle.laws.specs.Lists.{onlyIf, first, each, keep, elem, upFrom}
-use Rattle.laws.proofs.Tests.{tested, clash, both-ways, and-parts, eqb-self, split}
-use Rattle.laws.proofs.ListLaws.{each-append, each-ext, each-map, map-each, map-onlyIf, keep-map, length-upFrom}
+use Rattle.laws.proofs.Tests.{tested, both-ways, and-parts, eqb-self}
+use Rattle.laws.proofs.ListLaws.{each-append, each-ext, each-map, map-each, map-onlyIf, keep-map}
 use Rattle.laws.proofs.Ascending.{asc-ext, asc-keep, asc-upFrom, elem-keep, elem-upFrom}
 use Rattle.mesh.specs.Rings.{Face, nodeSet}
-use Rattle.findings.specs.Findings.{Rules, Finding, partly, meeting, meets, common as ringCommon, sharing as ringSharing}
+use Rattle.findings.specs.Findings.{Rules, partly, meeting, meets, common as ringCommon, sharing as ringSharing}
 use Rattle.index.specs.Faces.{cellOf, bowOf, nodesOf}
 use Rattle.seek.specs.Candidates.{common, sharing, shares, candidates}
 use Rattle.layout.specs.declared.Layout.{Layout}
 use Rattle.layout.specs.Tables.{ringRow, faceRow, firstOf, facesOfCell, Faced}
-use Rattle.layout.specs.ByCell.{pairFound, pairCells, partlyCell}
-use Rattle.layout.proofs.Owning.{first-mono, cell-range, later-cell}
+use Rattle.layout.specs.ByCell.{pairFound, pairCells}
+use Rattle.layout.proofs.Owning.{first-mono, cell-range}
 use Rattle.partially_shared.specs.Hits.{spansAt, passing, faceHits, cellHits, hitOf}
 
 -- ---- lists

@@ -1,25 +1,25 @@
 -- The candidates of a face, one by one, and the faces of a cell: what each adds, and that the search can go on.
-use Prim.Native.Nat.{ℕ, zero, suc, _+_, _-_, _≤_, _<_}
+use Prim.Native.Nat.{ℕ, suc, _+_, _-_, _≤_, _<_}
 use mathlib.Core.Path.{_≡_, refl, sym, ap, ap₂, _∙_, subst}
 use mathlib.Core.Bool.{Bool, true, false}
 use mathlib.Core.List.{List, [], _∷_, _++_, map, append-nil, append-assoc, map-append}
 use native.Mathlib.Omega.{arith}
-use lib.ListN.{length, getD, take, drop, replicate, getD-replicate}
+use lib.ListN.{length, getD, take, drop}
 use lib.Seq.{length-sets, take-suc, take-all, take-take, getD-take}
-use Rattle.laws.specs.Lists.{onlyIf, first, each, keep, upFrom}
+use Rattle.laws.specs.Lists.{onlyIf, each, keep, upFrom}
 use Rattle.laws.specs.Merging.{region, AllBelow}
 use Rattle.laws.proofs.Bounds.{below-at, below-append, below-upFrom}
-use Rattle.laws.proofs.ListLaws.{each-append, keep-append, keep-length, length-upFrom, upFrom-snoc}
+use Rattle.laws.proofs.ListLaws.{keep-append, keep-length, length-upFrom}
 use Rattle.laws.proofs.Stores.{getD-region, getD-after, region-same, take-before, drop-after}
 use Rattle.findings.specs.Findings.{Rules}
 use Rattle.index.specs.declared.Places.{Places}
-use Rattle.index.specs.Faces.{input, base, Indexed}
+use Rattle.index.specs.Faces.{input, Indexed}
 use Rattle.seek.specs.Candidates.{shares, candidates, Ready, Sought}
 use Rattle.layout.specs.declared.Layout.{Layout}
-use Rattle.layout.specs.Tables.{firstOf, Faced, Spaced, Standing}
+use Rattle.layout.specs.Tables.{Faced, Spaced, Standing}
 use Rattle.layout.proofs.Again.{same-input}
 use Rattle.partially_shared.specs.declared.Range.{Range}
-use Rattle.partially_shared.specs.Hits.{spansAt, passing, faceHits, cellHits, hitOf, MarkIs, Marked, MarkedMore, Searching, Beside}
+use Rattle.partially_shared.specs.Hits.{spansAt, passing, faceHits, hitOf, MarkIs, Marked, MarkedMore, Searching, Beside}
 
 -- ---- candidates are faces
 

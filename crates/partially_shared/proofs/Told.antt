@@ -1,14 +1,13 @@
 -- The record of a pair that a mark tells.
 use Prim.Native.Nat.{ℕ, _-_, _≤_}
-use mathlib.Core.Path.{_≡_, refl, sym, ap, _∙_}
+use mathlib.Core.Path.{_≡_, sym, _∙_}
 use mathlib.Core.List.{List}
 use lib.ListN.{length}
 use lib.Ieee.{Float}
 use Rattle.geometry.specs.declared.Point.{Point}
 use Rattle.geometry.specs.Points.{pointsOf, centreOf}
-use Rattle.findings.specs.Findings.{Finding, partly}
 use Rattle.findings.specs.Rules.{rulesWith}
-use Rattle.findings.specs.Records.{Fields, fieldsOf, centreIn}
+use Rattle.findings.specs.Records.{fieldsOf, centreIn}
 use Rattle.index.specs.Faces.{input, base, nodesOf}
 use Rattle.seek.specs.Candidates.{common}
 use Rattle.seek.proofs.Searching.{input-base}

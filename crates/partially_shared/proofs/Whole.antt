@@ -1,16 +1,16 @@
 -- All marks of a cell's search tell the cell's partly shared pairs.
 use Prim.Native.Nat.{ℕ, zero, suc, _+_, _-_, _≤_, _<_}
 use mathlib.Core.Path.{_≡_, refl, sym, ap, ap₂, _∙_, subst}
-use mathlib.Core.Logic.{_⊎_, inl, inr, _≢_}
+use mathlib.Core.Logic.{_⊎_, inl, inr}
 use mathlib.Core.Bool.{Bool, true, false, not, _&&_}
 use mathlib.Core.List.{List, [], _∷_, _++_, map, append-nil}
 use native.Mathlib.Omega.{arith}
 use native.Mathlib.Nat.{add-zero, zero-add}
 use borrow.Author.Tests.{ltb-true, eqb-true, eqb-false, ne-eqb, not-true}
-use lib.Dec.{leb, ltb, eqb}
-use lib.ListN.{length, getD}
+use lib.Dec.{ltb, eqb}
+use lib.ListN.{getD}
 use Rattle.laws.specs.Lists.{onlyIf, first, each, keep, upFrom}
-use Rattle.laws.proofs.Tests.{tested, clash, and-parts, split}
+use Rattle.laws.proofs.Tests.{tested, and-parts, split}
 use Rattle.laws.proofs.ListLaws.{each-append}
 use Rattle.findings.specs.Findings.{Rules, Finding, partly}
 use Rattle.index.specs.Faces.{cellOf, bowOf, nodesOf}
@@ -18,7 +18,7 @@ use Rattle.seek.specs.Candidates.{common, sharing, shares, candidates}
 use Rattle.layout.specs.declared.Layout.{Layout}
 use Rattle.layout.specs.Tables.{faceRow, firstOf, Faced}
 use Rattle.layout.specs.ByCell.{pairFound, pairCells, partlyCell}
-use Rattle.layout.proofs.Owning.{first-mono, later-cell}
+use Rattle.layout.proofs.Owning.{later-cell}
 use Rattle.partially_shared.specs.declared.Range.{Range}
 use Rattle.partially_shared.specs.Hits.{spansAt, passing, faceHits, cellHits, hitOf, MarkIs, Marked, MarksFit, toldBy, markTells}
 use Rattle.partially_shared.proofs.Cleared.{tells-none, tells-one}

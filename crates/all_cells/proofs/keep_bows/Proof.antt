@@ -1,7 +1,7 @@
 -- `all_cells::keep_bows` meets its contract.
-use Prim.Native.Nat.{ℕ, _+_, _-_, _*_, _≤_, _<_}
-use mathlib.Core.List.{List, []}
-use mathlib.Core.Path.{_≡_, refl, sym, ap, _∙_, subst}
+use Prim.Native.Nat.{_+_, _-_, _≤_}
+use mathlib.Core.List.{[]}
+use mathlib.Core.Path.{_≡_, refl, _∙_}
 use native.Mathlib.Omega.{arith}
 use borrow.Author.Needs.{needs}
 use lib.ListN.{length}
@@ -9,7 +9,6 @@ use Rattle.laws.specs.Lists.{each, upFrom}
 use Rattle.floats.specs.Floats.{zero64}
 use Rattle.index.specs.Faces.{input}
 use Rattle.layout.specs.ByCell.{plainRules, bowCell}
-use Rattle.layout.specs.Kept.{KeptAny}
 use Rattle.records.proofs.Keeping.{kept-none}
 use Rattle.all_cells.specs.Cells.{KeptEver}
 use Rattle.all_cells.proofs.Passing.{pass-next, pass-end, kept-long}

@@ -1,7 +1,7 @@
 -- `all_cells::keep_pairs` meets its contract.
-use Prim.Native.Nat.{ℕ, _+_, _-_, _*_, _≤_, _<_}
+use Prim.Native.Nat.{ℕ, _+_, _-_, _*_, _≤_}
 use mathlib.Core.List.{List}
-use mathlib.Core.Path.{_≡_, refl, _∙_, subst, ap}
+use mathlib.Core.Path.{_≡_, refl, _∙_, subst}
 use native.Mathlib.Omega.{arith}
 use borrow.Author.Needs.{needs}
 use lib.ListN.{length}
@@ -33,7 +33,7 @@ keep-partly-requires c κs =
     let b = c .before .before .before .before .before .before .before .before in
     let o = c .before .before .before .loop in
     let h = c .before .before .loop-test .taken in
-    (o .inv .4 .standing, ((h, b .pre .1 .0), (omega (arith, b .pre .1 .1 .0, o .inv .3), omega (arith, o .inv .1, h, b .pre .0 .spaced .few-cells, b .pre .1 .1 .1))))
+    (o .inv .4 .standing, ((omega (arith, h), b .pre .1 .0), (omega (arith, b .pre .1 .1 .0, o .inv .3), omega (arith, o .inv .1, h, b .pre .0 .spaced .few-cells, b .pre .1 .1 .1))))
 
 add-c : tie.Need-add-c Inv-loop μ-loop
 add-c c = search needs

@@ -1,7 +1,7 @@
 -- `all_cells::keep_repeats` meets its contract.
 use Prim.Native.Nat.{ℕ, _+_, _-_, _*_, _≤_, _<_}
 use mathlib.Core.List.{List}
-use mathlib.Core.Path.{_≡_, refl, sym, _∙_, subst, ap}
+use mathlib.Core.Path.{_≡_, refl, sym, _∙_, subst}
 use native.Mathlib.Omega.{arith}
 use borrow.Author.Needs.{needs}
 use lib.ListN.{length, take, drop}

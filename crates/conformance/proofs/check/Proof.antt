@@ -1,7 +1,6 @@
 -- `conformance::check` meets its contract.
 use Prim.Native.Nat.{ℕ, _-_, _≤_}
 use mathlib.Core.Path.{_≡_, sym, ap, _∙_, subst}
-use mathlib.Core.Logic.{_≢_}
 use native.Mathlib.Omega.{arith}
 use borrow.Author.Needs.{needs}
 use borrow.Author.Tests.{ltb-false}
@@ -10,7 +9,6 @@ use lib.ListN.{length, drop, replicate, length-take}
 use lib.Seq.{sets}
 use Rattle.laws.specs.Limits.{cellLimit, wordLimit}
 use Rattle.mesh.specs.Model.{modelOf}
-use Rattle.mesh.specs.Acceptance.{workNeeded}
 use Rattle.mesh.proofs.Accepts.{accepts}
 use Rattle.ring_lists.proofs.Lists.{few-nodes}
 use Rattle.ring_lists.proofs.Answers.{work-is}

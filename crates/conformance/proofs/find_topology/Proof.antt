@@ -1,16 +1,10 @@
 -- `conformance::find_topology` meets its contract.
-use Prim.Native.Nat.{ℕ, _+_, _≤_}
-use mathlib.Core.Path.{_≡_, sym, ap, _∙_, subst}
-use mathlib.Core.List.{List}
+use mathlib.Core.Path.{sym, subst}
 use native.Mathlib.Omega.{arith}
-use borrow.Author.Needs.{needs}
-use lib.ListN.{length}
-use Rattle.floats.specs.Floats.{zero64}
 use Rattle.index.specs.Faces.{input}
-use Rattle.mesh.specs.Model.{Model, modelOf}
+use Rattle.mesh.specs.Model.{modelOf}
 use Rattle.layout.specs.Shown.{Shows}
-use Rattle.layout.specs.ByCell.{plainRules}
-use Rattle.all_cells.proofs.Passing.{kept-long, still-input}
+use Rattle.all_cells.proofs.Passing.{still-input}
 use Rattle.conformance.proofs.Standing.{few, indexed-input, stands}
 use Rattle.conformance.proofs.Shown.{overs-kept, pairs-kept, repeats-kept}
 use Rattle.conformance.proofs.Cells.{cells-in}

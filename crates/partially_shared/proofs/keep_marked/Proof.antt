@@ -1,10 +1,9 @@
 -- `partially_shared::keep_marked` meets its contract.
-use Prim.Native.Nat.{ℕ, _+_, _≤_}
-use mathlib.Core.List.{List, [], _∷_}
-use mathlib.Core.Path.{_≡_, refl, sym, ap, _∙_, subst}
+use Prim.Native.Nat.{_+_}
+use mathlib.Core.List.{List}
+use mathlib.Core.Path.{_≡_, refl, sym, subst}
 use native.Mathlib.Omega.{arith}
 use borrow.Author.Needs.{needs}
-use lib.Ieee.{Float}
 use Rattle.floats.specs.Floats.{zero64}
 use Rattle.findings.specs.Findings.{Finding}
 use Rattle.index.specs.Faces.{input}

@@ -1,18 +1,15 @@
 -- `partially_shared::keep_partly` meets its contract.
-use Prim.Native.Nat.{ℕ, _+_, _-_, _≤_, _<_}
+use Prim.Native.Nat.{ℕ, _-_}
 use mathlib.Core.List.{List}
-use mathlib.Core.Path.{_≡_, sym, ap, _∙_, subst}
-use native.Mathlib.Omega.{arith}
+use mathlib.Core.Path.{_≡_, ap, _∙_, subst}
 use borrow.Author.Needs.{needs}
-use lib.ListN.{drop}
 use Rattle.laws.specs.Lists.{each, upFrom}
 use Rattle.findings.specs.Findings.{Finding}
 use Rattle.index.specs.Faces.{input}
 use Rattle.layout.specs.ByCell.{plainRules, partlyCell}
 use Rattle.records.specs.Keeping.{Kept}
 use Rattle.partially_shared.specs.Hits.{markTells}
-use Rattle.partially_shared.proofs.Searched.{searches, searching-on, input-on, beside-less, beside-then}
-use Rattle.partially_shared.proofs.Cleared.{all-cleared}
+use Rattle.partially_shared.proofs.Searched.{searches, searching-on, input-on}
 use Rattle.partially_shared.proofs.Whole.{whole-told, marks-fit}
 use Rattle.partially_shared.proofs.Left.{left-still}
 use Rattle.partially_shared.proofs.keep_partly.Statement.{statement}

@@ -1,12 +1,10 @@
 -- `partially_shared::note_found` meets its contract.
-use Prim.Native.Nat.{ℕ, _+_, _-_, _≤_, _<_}
-use mathlib.Core.List.{List}
-use mathlib.Core.Path.{_≡_, sym, ap, _∙_, subst}
+use Prim.Native.Nat.{_-_, _≤_}
+use mathlib.Core.Path.{_≡_, _∙_}
 use native.Mathlib.Omega.{arith}
 use borrow.Author.Needs.{needs}
-use lib.ListN.{length, getD}
+use lib.ListN.{length}
 use Rattle.index.specs.Faces.{input}
-use Rattle.seek.specs.Candidates.{candidates}
 use Rattle.layout.specs.ByCell.{plainRules}
 use Rattle.partially_shared.proofs.Searched.{candidate-low, candidates-few, Noting, noting-start, next-is, noting-next, more-all}
 use Rattle.partially_shared.proofs.note_found.Statement.{statement}
