@@ -1,11 +1,11 @@
 -- Words of the tables below the marks of bow-ties, read from the whole slice.
-use Prim.Native.Nat.{ℕ, _+_, _-_, _≤_, _<_}
+use Prim.Native.Nat.{ℕ, _+_, _-_, _≤_}
 use mathlib.Core.Path.{_≡_, sym, ap, ap₂, _∙_, subst}
 use mathlib.Core.List.{List, map}
 use native.Mathlib.Omega.{arith}
 use lib.Ieee.{Float}
-use lib.ListN.{length, getD, take, drop, length-take, length-map}
-use lib.Seq.{sets, getD-take}
+use lib.ListN.{length, take, drop, length-map}
+use lib.Seq.{sets}
 use Rattle.laws.specs.Merging.{region, AllBelow}
 use Rattle.laws.proofs.Stores.{region-take, region-same, length-region}
 use Rattle.geometry.specs.Coordinates.{nodeCount}
@@ -16,54 +16,37 @@ use Rattle.snap.specs.Weld.{weldedBy}
 use Rattle.layout.specs.declared.Layout.{Layout}
 use Rattle.layout.specs.Tables.{ringRow, Ringed}
 use Rattle.layout.specs.ByCell.{ringBow}
+use Rattle.layout.proofs.Ringing.{tables-in, Ring, rows-rise}
 use Rattle.bow_cells.proofs.Welded.{below-welded, in-nodes}
 
 module _ (l : Layout) (w : List ℕ) (f : Ringed l (take (l .at .bows) w)) where
-  -- the slice holds all words of the tables
-  pub tables-in : l .at .bows ≤ length w
-  tables-in = omega (arith, f .whole, length-take (l .at .bows) w)
-
-  -- a word of the tables is the slice's
-  pub word-is : (i : ℕ) → i < l .at .bows → getD w i 0 ≡ getD (take (l .at .bows) w) i 0
-  word-is i h = sym (getD-take (l .at .bows) w i 0 h)
-
   -- the map of the tables is the slice's
   welds-are : region (l .weld) (l .at .nodes) w ≡ region (l .weld) (l .at .nodes) (take (l .at .bows) w)
   welds-are = sym (region-take (l .weld) (l .at .nodes) (l .at .bows) w (f .weld-at))
 
--- ring g of the tables in w starts at s and ends at e, counted in words
-pub record Ring (l : Layout) (w : List ℕ) (g s e : ℕ) : Type 0 where
-  pub ringed : Ringed l (take (l .at .bows) w)
-  pub face : g < l .at .faces
-  pub from : s ≡ getD (take (l .at .bows) w) (l .rows + g) 0
-  pub to : e ≡ getD (take (l .at .bows) w) (l .rows + (g + 1)) 0
-
--- the same in welded numbers
+-- a ring in welded numbers
 abbrev weldedRing : Layout → List ℕ → ℕ → List ℕ
 weldedRing l t g = map (weldedBy (region (l .weld) (l .at .nodes) t)) (ringRow l t g)
 
 module _ {l : Layout} {w : List ℕ} {g s e : ℕ} (p : Ring l w g s e) where
-  -- the bounds rise, and end within the rings
-  pub rows-rise : s ≤ e
-  rows-rise = omega (arith, p .ringed .rising g (p .face))
-
-  pub rows-within : l .rings + e ≤ l .at .bows
-  rows-within = omega (arith, p .ringed .within (g + 1) (omega arith), p .ringed .rings-at)
+  -- its end lies within the rings
+  pub ring-ends : l .rings + e ≤ l .at .bows
+  ring-ends = omega (arith, p .ringed .within (g + 1) (omega arith), p .ringed .rings-at)
 
   -- so many words lie between them
   apart : l .rings + e - (l .rings + s) ≡ e - s
-  apart = omega (arith, rows-rise)
+  apart = omega (arith, rows-rise p)
 
   -- they are the ring
   ring-is : region (l .rings + s) (l .rings + e - (l .rings + s)) w ≡ ringRow l (take (l .at .bows) w) g
   unfolding ringRow
   ring-is =
       ap (λ (k : ℕ). region (l .rings + s) k w) apart
-      ∙ sym (region-take (l .rings + s) (e - s) (l .at .bows) w (omega (arith, rows-rise, rows-within)))
+      ∙ sym (region-take (l .rings + s) (e - s) (l .at .bows) w (omega (arith, rows-rise p, ring-ends)))
       ∙ ap₂ (λ (a b : ℕ). region (l .rings + a) (b - a) (take (l .at .bows) w)) (p .from) (p .to)
 
   ring-long : length (ringRow l (take (l .at .bows) w) g) ≡ l .rings + e - (l .rings + s)
-  ring-long = ap length (sym ring-is) ∙ length-region (l .rings + s) (l .rings + e - (l .rings + s)) w (omega (arith, rows-rise, rows-within, tables-in l w (p .ringed)))
+  ring-long = ap length (sym ring-is) ∙ length-region (l .rings + s) (l .rings + e - (l .rings + s)) w (omega (arith, rows-rise p, ring-ends, tables-in l w (p .ringed)))
 
   -- there are at most 64, each a node
   pub ring-short : l .rings + e - (l .rings + s) ≤ 64

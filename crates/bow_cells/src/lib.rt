@@ -2,7 +2,7 @@
 ghost use mathlib.Core.Path.{_≡_};
 ghost use mathlib.Core.List.{map};
 ghost use Prim.Native.Nat.{_+_, _≤_, _<_};
-ghost use lib.ListN.{length, getD, take};
+ghost use lib.ListN.{length, take};
 ghost use lib.Seq.{sets};
 ghost use Rattle.laws.specs.Lists.{upFrom};
 ghost use Rattle.laws.specs.Merging.{region, AllBelow};
@@ -25,23 +25,14 @@ fn put_welded(words: &[u32], work: &[u32], o: usize, n: usize, out: &mut [u32])
     }
 }
 
-// Where the ring of face g starts, counted in words; for g past the last, where all end.
-fn row(work: &[u32], l: Layout, g: usize) -> usize
-    requires { ⌜ Ringed l (take (l .at .bows) (now work)) × (g ≤ l .at .faces) ⌝ }
-    ensures { λ r. ⌜ (r ≡ getD (take (l .at .bows) (now (work .entry))) (l .rows + g) 0) × (r ≤ l .total) ⌝ }
-{
-    let at = l.rows + g;
-    counting::wide(work[at])
-}
-
 // The ring of face g, in welded numbers, meets itself.
 fn ring_meets(coords: &[f64], tol: f64, work: &[u32], l: Layout, g: usize) -> bool
     requires { ⌜ Ringed l (take (l .at .bows) (now work)) × (l .at .nodes ≡ nodeCount (now coords)) × (g < l .at .faces) ⌝ }
     ensures { λ r. ⌜ r ≡ ringBow (now (coords .entry)) tol l (take (l .at .bows) (now (work .entry))) g ⌝ }
 {
     let p = l.at;
-    let s = row(work, l, g);
-    let e = row(work, l, g + 1);
+    let s = layout::ring_row(work, l, g);
+    let e = layout::ring_row(work, l, g + 1);
     let start = l.rings + s;
     let end = l.rings + e;
     let n = end - start;

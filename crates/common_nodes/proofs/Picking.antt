@@ -8,8 +8,7 @@ use lib.ListN.{length, getD, take, drop, set, length-append}
 use lib.Seq.{sets, take-suc, take-all, take-append-seam}
 use lib.Ieee.{Float}
 use Rattle.laws.specs.Lists.{onlyIf, keep, elem}
-use Rattle.laws.specs.Merging.{AllBelow}
-use Rattle.laws.proofs.Bounds.{below-at, below-append}
+use Rattle.laws.proofs.Bounds.{below-at, below-each, below-keep}
 use Rattle.laws.proofs.ListLaws.{keep-append, keep-length}
 use Rattle.laws.proofs.Stores.{sets-snoc, sets-front}
 use Rattle.geometry.specs.Steps.{InNodes}
@@ -69,19 +68,10 @@ picked-all A B own₀ own n i p h =
     let e : take i A ≡ A = take-all i A h in
     (p .count ∙ ap (λ (l : List ℕ). length (common l B)) e, p .put ∙ ap (λ (l : List ℕ). sets own₀ 0 (common l B)) e)
 
--- numbers that are kept are below what all are below
-below-keep : (n : ℕ) (p : ℕ → Bool) (l : List ℕ) → ((i : ℕ) → i < length l → getD l i 0 < n) → AllBelow n (keep p l)
-below-keep n p [] h = tt
-below-keep n p (x ∷ l) h = below-append n (onlyIf (p x) (x ∷ [])) (keep p l) (go (p x)) (below-keep n p l (λ i b. h (suc i) (omega (arith, b))))
-  where
-    go : (b : Bool) → AllBelow n (onlyIf b (x ∷ []))
-    go true = (h 0 (omega arith), tt)
-    go false = tt
-
 -- common nodes are nodes, and no more than there were
 pub common-in : (c : List Float) (n : ℕ) (A B : List ℕ) → n ≡ nodeCount c → ((i : ℕ) → i < length A → getD A i 0 < n) → InNodes c (common A B)
 unfolding common
-common-in c n A B e h i l = omega (arith, e, below-at n (common A B) i (below-keep n (λ k. elem k B) A h) l)
+common-in c n A B e h i l = omega (arith, e, below-at n (common A B) i (below-keep n (λ k. elem k B) A (below-each n A h)) l)
 
 pub common-few : (A B : List ℕ) → length (common A B) ≤ length A
 unfolding common

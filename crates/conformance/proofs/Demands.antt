@@ -19,6 +19,7 @@ use Rattle.findings.specs.Demand3.{PartlyShared, Reported}
 use Rattle.findings.specs.Check.{Totals, totalsOf, checkRefusal, Checking}
 use Rattle.findings.specs.declared.CheckAnswer.{CheckAnswer}
 use Rattle.findings.specs.declared.CheckAnswer.the-variants.{Refused, Report}
+use Rattle.findings.proofs.Kept.{told-done}
 use Rattle.findings.proofs.Demand3.{pair-once, pair-never, report-says}
 
 -- ---- demand 1
@@ -31,13 +32,6 @@ told-refused n k a e = go (tested (eqb k 0))
     go (inl t) = let q : refused n ≡ done a = e ∙ rw t in let z : _≡_ {A = ℕ} 0 1 = cc in absurd (omega arith)
     go (inr t) = let q : refused n ≡ refused k = e ∙ rw t in (cc, t)
 
-told-done : {A : Type 0} (k : ℕ) (a b : A) → done b ≡ answer k a → eqb k 0 ≡ true
-told-done k a b e = go (tested (eqb k 0))
-  where
-    go : (eqb k 0 ≡ true) ⊎ (eqb k 0 ≡ false) → eqb k 0 ≡ true
-    go (inl t) = t
-    go (inr t) = let q : done b ≡ refused k = e ∙ rw t in let z : _≡_ {A = ℕ} 0 1 = cc in absurd (omega arith)
-
 -- "A numbered refusal [..]. A refusal comes only for the reasons in document 01, in that order, and changes no lent byte": the number is that of the first row of the table whose reason holds, and it is not 0
 pub refusal-is : (m : Model) (f f' w w' : List ℕ) (n : ℕ) → Checking m f f' w w' (Refused n) → (n ≡ refusal (checkTable m (length w))) × (n ≢ 0) × (f' ≡ f) × (w' ≡ w)
 refusal-is m f f' w w' n c =
@@ -48,7 +42,7 @@ refusal-is m f f' w w' n c =
 pub report-is-whole : (m : Model) (f f' w w' : List ℕ) (t k : ℕ) → Checking m f f' w w' (Report t k)
     → (refusal (checkTable m (length w)) ≡ 0) × Reported m f f' t k × (w' ≡ replicate (workNeeded m) 0 ++ drop (workNeeded m) w)
 report-is-whole m f f' w w' t k c =
-    let e = told-done (checkRefusal m w) (totalsOf m (length f)) (record { total = t; kept = k }) (c .answered) in
+    let e = told-done (checkRefusal m w) (record { total = t; kept = k }) (totalsOf m (length f)) (c .answered) .0 in
     (eqb-true (checkRefusal m w) 0 e, report-says m f f' w w' t k c, c .workIs ∙ (rw e) ∙ ap (λ (i : ℕ). replicate (workNeeded m) 0 ++ drop i w) (length-replicate {A = ℕ} (workNeeded m) 0))
 
 -- "is the answer to every model [..] and lent memory": a model that no reason refuses is reported
@@ -57,9 +51,7 @@ accepted-is-reported m f f' w w' (Refused n) e c =
     let p = told-refused n (checkRefusal m w) (totalsOf m (length f)) (c .answered) in
     absurd (eqb-false (checkRefusal m w) 0 (p .1) e)
 accepted-is-reported m f f' w w' (Report t k) e c =
-    let q : done (record { total = t; kept = k }) ≡ done (totalsOf m (length f)) = c .answered ∙ rw e in
-    let z : _≡_ {A = Totals} (record { total = t; kept = k }) (totalsOf m (length f)) = cc in
-    ap (λ (x : Totals). Report (x .total) (x .kept)) z
+    ap (λ (x : Totals). Report (x .total) (x .kept)) (told-done (checkRefusal m w) (record { total = t; kept = k }) (totalsOf m (length f)) (c .answered) .1)
 
 -- ---- demand 3, the pairs, of a model that the check reports on
 

@@ -57,7 +57,7 @@ lent-length m f f' w w' r c = ap length (c .findingsAre) ∙ go (eqb (checkRefus
     go false = refl
 
 -- an answer that is no refusal: nothing was refused, and it is that answer
-told-done : {A : Type 0} (n : ℕ) (a b : A) → done a ≡ answer n b → (eqb n 0 ≡ true) × (a ≡ b)
+pub told-done : {A : Type 0} (n : ℕ) (a b : A) → done a ≡ answer n b → (eqb n 0 ≡ true) × (a ≡ b)
 told-done n a b e = go (tested (eqb n 0))
   where
     go : (eqb n 0 ≡ true) ⊎ (eqb n 0 ≡ false) → (eqb n 0 ≡ true) × (a ≡ b)

@@ -6,8 +6,6 @@ use mathlib.Core.List.{List, [], _∷_, _++_, map}
 use lib.Ieee.{Float, binary64, ofBits, toBits, ofInt, neg, add, sub, mul, div, lt, le, eq, isNan}
 use lib.IntN.{pos}
 use Rattle.laws.specs.Bytes.{bytes}
-use Rattle.laws.specs.Lists.{each}
-use Rattle.laws.specs.Limits.{nodeLimit}
 use Rattle.floats.specs.Floats.{absoluteOf, largerOf}
 use Rattle.floats.specs.Root.{sqrt}
 use Rattle.geometry.specs.Coordinates.{countOff}
@@ -20,10 +18,10 @@ use Rattle.mesh.specs.Model.{Model, cellsOf}
 use Rattle.mesh.specs.Rings.{separator, ringsOf, facesFrom, numberFrom, numbered, facesOf, faces, sameKey}
 use Rattle.mesh.specs.Acceptance.{shapeOff, cellTable, modelRefusal}
 use Rattle.snap.specs.Weld.{beforeOf, farOf, nearOf, welded, weldedAll}
-use Rattle.findings.specs.Findings.{Finding, bowtie, overfull, partly, repeated, overOf, overAt, common, sharing, meets, meeting, partlyOf, pairAt, kind1, kind2, kind3, kind4, full}
+use Rattle.findings.specs.Findings.{overfull, partly, overOf, overAt, common, sharing, meets, meeting, partlyOf, pairAt, kind1, kind2, kind3, kind4, full}
 use Rattle.findings.specs.Rules.{repeatsOf, bowOf, rulesWith, rulesOf, cellsIn, fullOf}
-use Rattle.findings.specs.Records.{Fields, fieldsOf, centreIn, recordBytes, recordOf, keptOf, keptBytes}
-use Rattle.findings.specs.Check.{Totals, totalsOf}
+use Rattle.findings.specs.Records.{fieldsOf, centreIn, recordBytes, recordOf, keptOf, keptBytes}
+use Rattle.findings.specs.Check.{totalsOf}
 
 -- ---- models
 

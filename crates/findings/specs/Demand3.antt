@@ -1,10 +1,10 @@
 -- What the theorems of demand 3 are said in, besides specs/Compared.antt.
 use Prim.Native.Nat.{ℕ, _/_, min, _≤_, _<_}
-use mathlib.Core.Bool.{Bool, true, false, cond, _&&_}
-use mathlib.Core.List.{List, [], _∷_, _++_, Perm, List·Memᴰ}
+use mathlib.Core.Bool.{true, false, cond}
+use mathlib.Core.List.{List, _++_, Perm, List·Memᴰ}
 use mathlib.Core.Logic.{_≢_}
 use mathlib.Core.Path.{_≡_}
-use lib.Dec.{leb, eqb}
+use lib.Dec.{eqb}
 use lib.ListN.{length, getD, take, drop}
 use Rattle.laws.specs.Lists.{any, each, upFrom}
 use Rattle.mesh.specs.Model.{Model, Raw, ascending, cellsOf}

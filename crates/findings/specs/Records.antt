@@ -1,6 +1,6 @@
 -- The 64-byte record of a finding, and the list kept.
-use Prim.Native.Nat.{ℕ, _*_, _/_, min}
-use mathlib.Core.List.{List, [], _∷_, _++_}
+use Prim.Native.Nat.{ℕ, _/_, min}
+use mathlib.Core.List.{List, _∷_, _++_}
 use lib.ListN.{length, take, replicate}
 use Rattle.laws.specs.Bytes.{bytes}
 use Rattle.laws.specs.Lists.{each}

@@ -1,9 +1,8 @@
 -- The rules of a model: bow-tie, area, repeated nodes and centres, under a welded map.
 use Prim.Native.Nat.{ℕ}
 use mathlib.Core.Bool.{Bool, not, cond, _&&_, _||_}
-use mathlib.Core.List.{List, [], _∷_, map}
+use mathlib.Core.List.{List, [], map}
 use lib.Dec.{leb, ltb, eqb}
-use lib.ListN.{getD}
 use lib.Ieee.{Float}
 use Rattle.laws.specs.Lists.{any, last, walk, keep, distinct}
 use Rattle.geometry.specs.Points.{midpointOf, pointAt, pointsOf, centreOf}

@@ -6,7 +6,7 @@ use mathlib.Core.Bool.{Bool, true, false}
 use mathlib.Core.List.{List, [], _∷_, _++_}
 use native.Mathlib.Omega.{arith}
 use lib.ListN.{length, getD}
-use Rattle.laws.specs.Lists.{insert, sort, upFrom}
+use Rattle.laws.specs.Lists.{onlyIf, keep, insert, sort, upFrom}
 use Rattle.laws.specs.Merging.{AllBelow}
 use Rattle.laws.proofs.Tests.{tested}
 
@@ -15,6 +15,11 @@ pub below-at : (n : ℕ) (l : List ℕ) (i : ℕ) → AllBelow n l → i < lengt
 below-at n [] i h k = absurd (omega arith)
 below-at n (x ∷ l) zero h k = h .0
 below-at n (x ∷ l) (suc i) h k = below-at n l i (h .1) (omega arith)
+
+-- and back
+pub below-each : (n : ℕ) (l : List ℕ) → ((i : ℕ) → i < length l → getD l i 0 < n) → AllBelow n l
+below-each n [] h = tt
+below-each n (x ∷ l) h = (h 0 (omega arith), below-each n l (λ i b. h (suc i) (omega (arith, b))))
 
 -- two lists, one after the other, and back
 pub below-append : (n : ℕ) (a b : List ℕ) → AllBelow n a → AllBelow n b → AllBelow n (a ++ b)
@@ -47,3 +52,12 @@ module _ (le : ℕ → ℕ → Bool) where
   pub below-sort : (n : ℕ) (l : List ℕ) → AllBelow n l → AllBelow n (sort le l)
   below-sort n [] h = tt
   below-sort n (x ∷ l) h = below-insert n x (sort le l) (h .0) (below-sort n l (h .1))
+
+-- those kept
+pub below-keep : (n : ℕ) (p : ℕ → Bool) (l : List ℕ) → AllBelow n l → AllBelow n (keep p l)
+below-keep n p [] h = tt
+below-keep n p (x ∷ l) h = below-append n (onlyIf (p x) (x ∷ [])) (keep p l) (go (p x)) (below-keep n p l (h .1))
+  where
+    go : (b : Bool) → AllBelow n (onlyIf b (x ∷ []))
+    go true = (h .0, tt)
+    go false = tt

@@ -139,6 +139,12 @@ getD-upFrom i zero k d h = absurd (omega arith)
 getD-upFrom i (suc n) zero d h = sym (add-zero i)
 getD-upFrom i (suc n) (suc k) d h = getD-upFrom (suc i) n k d (omega arith) ∙ suc-add i k ∙ sym (add-suc i k)
 
+module _ {ℓ} {B : Type ℓ} where
+  -- two functions that agree on these numbers give the same lists
+  pub each-agree : (f g : ℕ → List B) (i n : ℕ) → ((k : ℕ) → i ≤ k → k < i + n → f k ≡ g k) → each f (upFrom i n) ≡ each g (upFrom i n)
+  each-agree f g i zero h = refl
+  each-agree f g i (suc n) h = ap₂ (λ (a b : List B). a ++ b) (h i (omega arith) (omega arith)) (each-agree f g (suc i) n (λ k a b. h k (omega arith) (omega arith)))
+
 -- ---- equal lists
 
 pub eql-true : (a b : List ℕ) → eql a b ≡ true → a ≡ b

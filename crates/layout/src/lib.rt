@@ -1,9 +1,9 @@
 // Where the tables of a model's faces, the index and the scratch of the check stand in its one lent work slice.
 ghost use mathlib.Core.Path.{_≡_};
 ghost use Prim.Native.Nat.{_+_, _≤_, _<_};
-ghost use lib.ListN.{getD};
+ghost use lib.ListN.{getD, take};
 ghost use Rattle.index.specs.Faces.{input, cellOf};
-ghost use Rattle.layout.specs.Tables.{firstOf, Faced};
+ghost use Rattle.layout.specs.Tables.{firstOf, Faced, Ringed};
 
 // The regions in their order, with the words of each: weld (nodes), rings (total), rows (faces + 1), firsts (cells + 1), then of the
 // pair search bows (cells) and cells (faces), keys (total), and again of the search starts, sets, offsets, index and found; behind them
@@ -52,5 +52,14 @@ pub fn cell_of(work: &[u32], l: Layout, g: usize) -> usize
 {
     let p = l.at;
     let at = p.cells + g;
+    counting::wide(work[at])
+}
+
+// A row while the tables below the marks of bow-ties stand, and no more: where the ring of face g starts; for g past the last, where all end.
+pub fn ring_row(work: &[u32], l: Layout, g: usize) -> usize
+    requires { ⌜ Ringed l (take (l .at .bows) (now work)) × (g ≤ l .at .faces) ⌝ }
+    ensures { λ r. ⌜ (r ≡ getD (take (l .at .bows) (now (work .entry))) (l .rows + g) 0) × (r ≤ l .total) ⌝ }
+{
+    let at = l.rows + g;
     counting::wide(work[at])
 }

@@ -18,7 +18,7 @@ use Rattle.layout.specs.Tables.{startsOf, ringRow, Ringed}
 use Rattle.node_sets.specs.Unique.{unique}
 use Rattle.node_sets.specs.Sets.{keysOf, setsFrom, Keyed}
 use Rattle.node_sets.proofs.Unique.{unique-sort}
-use Rattle.node_sets.proofs.Reading.{Ring, rows-rise, rows-within}
+use Rattle.layout.proofs.Ringing.{Ring, rows-rise, rows-within}
 use Rattle.node_sets.proofs.Keys.{key-at}
 
 -- ---- the tables

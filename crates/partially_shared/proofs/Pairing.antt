@@ -1,5 +1,5 @@
 -- The marks tell the partly shared pairs of the definition.
-use Prim.Native.Nat.{ℕ, zero, suc, _+_, _-_, _≤_, _<_}
+use Prim.Native.Nat.{ℕ, _+_, _-_, _≤_, _<_}
 use mathlib.Core.Path.{_≡_, refl, sym, ap, ap₂, _∙_}
 use mathlib.Core.Logic.{_⊎_, inl, inr}
 use mathlib.Core.Bool.{Bool, true, false, not, _&&_}
@@ -9,7 +9,7 @@ use borrow.Author.Tests.{leb-true, ltb-true, eqb-true, lt-ltb, le-leb, ne-eqb}
 use lib.Dec.{leb, ltb, eqb}
 use Rattle.laws.specs.Lists.{onlyIf, first, each, keep, elem, upFrom}
 use Rattle.laws.proofs.Tests.{tested, both-ways, and-parts, eqb-self}
-use Rattle.laws.proofs.ListLaws.{each-append, each-ext, each-map, map-each, map-onlyIf, keep-map}
+use Rattle.laws.proofs.ListLaws.{each-append, each-ext, each-map, map-each, map-onlyIf, keep-map, each-agree}
 use Rattle.laws.proofs.Ascending.{asc-ext, asc-keep, asc-upFrom, elem-keep, elem-upFrom}
 use Rattle.mesh.specs.Rings.{Face, nodeSet}
 use Rattle.findings.specs.Findings.{Rules, partly, meeting, meets, common as ringCommon, sharing as ringSharing}
@@ -30,11 +30,6 @@ each-each f g (x ∷ l) = each-append f (g x) (each g l) ∙ ap (λ r. each f (g
 each-nil : {A B : Type 0} (l : List A) → each {B = B} (λ x. []) l ≡ []
 each-nil [] = refl
 each-nil (x ∷ l) = each-nil l
-
--- two functions that agree on a range
-pub each-range : {B : Type 0} (f g : ℕ → List B) (a n : ℕ) → ((i : ℕ) → a ≤ i → i < a + n → f i ≡ g i) → each f (upFrom a n) ≡ each g (upFrom a n)
-each-range f g a zero h = refl
-each-range f g a (suc n) h = ap₂ (λ x y. x ++ y) (h a (omega arith) (omega arith)) (each-range f g (suc a) n (λ i p q. h i (omega (arith, p)) (omega (arith, q))))
 
 first-map : {A B : Type 0} (h : A → B) (l : List A) → first (map h l) ≡ map h (first l)
 first-map h [] = refl
@@ -187,7 +182,7 @@ module _ (R : Rules) (l : Layout) (t : List ℕ) (F : Faced l t) where
     -- the pairs that the search gives of b are these, where no cell is a bow-tie
     pub hit-b : hitOf l t b (cellHits R l t c) ≡ onlyIf both (first meetNums)
     unfolding hitOf cellHits faceHits passing
-    hit-b = ap first (each-each (λ (h : ℕ × ℕ). onlyIf (eqb (cellOf (l .at) t (h .1)) b) (h ∷ [])) (faceHits R l t) (facesFrom c) ∙ each-range one two (firstOf l t c) (firstOf l t (c + 1) - firstOf l t c) row) ∙ ends (tested both)
+    hit-b = ap first (each-each (λ (h : ℕ × ℕ). onlyIf (eqb (cellOf (l .at) t (h .1)) b) (h ∷ [])) (faceHits R l t) (facesFrom c) ∙ each-agree one two (firstOf l t c) (firstOf l t (c + 1) - firstOf l t c) row) ∙ ends (tested both)
       where
         one : ℕ → List (ℕ × ℕ)
         one f = keep (λ (h : ℕ × ℕ). eqb (cellOf (l .at) t (h .1)) b) (map (λ g. (f, g)) (keep (spansAt R l t f) (candidates (l .at) t f)))

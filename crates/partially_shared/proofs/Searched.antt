@@ -1,14 +1,13 @@
 -- The candidates of a face, one by one, and the faces of a cell: what each adds, and that the search can go on.
 use Prim.Native.Nat.{ℕ, suc, _+_, _-_, _≤_, _<_}
 use mathlib.Core.Path.{_≡_, refl, sym, ap, ap₂, _∙_, subst}
-use mathlib.Core.Bool.{Bool, true, false}
 use mathlib.Core.List.{List, [], _∷_, _++_, map, append-nil, append-assoc, map-append}
 use native.Mathlib.Omega.{arith}
 use lib.ListN.{length, getD, take, drop}
 use lib.Seq.{length-sets, take-suc, take-all, take-take, getD-take}
-use Rattle.laws.specs.Lists.{onlyIf, each, keep, upFrom}
-use Rattle.laws.specs.Merging.{region, AllBelow}
-use Rattle.laws.proofs.Bounds.{below-at, below-append, below-upFrom}
+use Rattle.laws.specs.Lists.{each, keep, upFrom}
+use Rattle.laws.specs.Merging.{region}
+use Rattle.laws.proofs.Bounds.{below-at, below-upFrom, below-keep}
 use Rattle.laws.proofs.ListLaws.{keep-append, keep-length, length-upFrom}
 use Rattle.laws.proofs.Stores.{getD-region, getD-after, region-same, take-before, drop-after}
 use Rattle.findings.specs.Findings.{Rules}
@@ -22,14 +21,6 @@ use Rattle.partially_shared.specs.declared.Range.{Range}
 use Rattle.partially_shared.specs.Hits.{spansAt, passing, faceHits, hitOf, MarkIs, Marked, MarkedMore, Searching, Beside}
 
 -- ---- candidates are faces
-
-below-keep : (n : ℕ) (p : ℕ → Bool) (l : List ℕ) → AllBelow n l → AllBelow n (keep p l)
-below-keep n p [] h = tt
-below-keep n p (x ∷ l) h = below-append n (onlyIf (p x) (x ∷ [])) (keep p l) (go (p x)) (below-keep n p l (h .1))
-  where
-    go : (b : Bool) → AllBelow n (onlyIf b (x ∷ []))
-    go true = (h .0, tt)
-    go false = tt
 
 pub candidate-low : (p : Places) (t : List ℕ) (f i : ℕ) → i < length (candidates p t f) → getD (candidates p t f) i 0 < p .faces
 unfolding candidates

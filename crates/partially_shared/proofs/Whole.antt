@@ -11,7 +11,7 @@ use lib.Dec.{ltb, eqb}
 use lib.ListN.{getD}
 use Rattle.laws.specs.Lists.{onlyIf, first, each, keep, upFrom}
 use Rattle.laws.proofs.Tests.{tested, and-parts, split}
-use Rattle.laws.proofs.ListLaws.{each-append}
+use Rattle.laws.proofs.ListLaws.{each-append, each-agree}
 use Rattle.findings.specs.Findings.{Rules, Finding, partly}
 use Rattle.index.specs.Faces.{cellOf, bowOf, nodesOf}
 use Rattle.seek.specs.Candidates.{common, sharing, shares, candidates}
@@ -22,7 +22,7 @@ use Rattle.layout.proofs.Owning.{later-cell}
 use Rattle.partially_shared.specs.declared.Range.{Range}
 use Rattle.partially_shared.specs.Hits.{spansAt, passing, faceHits, cellHits, hitOf, MarkIs, Marked, MarksFit, toldBy, markTells}
 use Rattle.partially_shared.proofs.Cleared.{tells-none, tells-one}
-use Rattle.partially_shared.proofs.Pairing.{each-range, common-is, pairs-b}
+use Rattle.partially_shared.proofs.Pairing.{common-is, pairs-b}
 
 -- ---- what holds of all
 
@@ -184,7 +184,7 @@ module _ (R : Rules) (l : Layout) (t : List ℕ) (F : Faced l t) (c : ℕ) (low 
     whole-told top =
         sym (ranged (split (r .hi) (r .lo)))
         ∙ each-window (markTells l t w c) (c + 1) (l .at .«cell_count» - (c + 1)) (l .at .«cell_count») (omega (arith, low)) (λ i x o. early-told i (before i x o) x)
-        ∙ each-range (markTells l t w c) (pairCells R l t c) (c + 1) (l .at .«cell_count» - (c + 1)) (λ i x y. later-told i (omega (arith, x)) (omega (arith, y, low)))
+        ∙ each-agree (markTells l t w c) (pairCells R l t c) (c + 1) (l .at .«cell_count» - (c + 1)) (λ i x y. later-told i (omega (arith, x)) (omega (arith, y, low)))
       where
         before : (i : ℕ) → i < l .at .«cell_count» → (i < c + 1) ⊎ (c + 1 + (l .at .«cell_count» - (c + 1)) ≤ i) → i ≤ c
         before i x (inl y) = omega (arith, y)

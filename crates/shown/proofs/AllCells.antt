@@ -13,7 +13,8 @@ use Rattle.findings.specs.Compared.{none}
 use Rattle.layout.specs.declared.Layout.{Layout}
 use Rattle.layout.specs.ByCell.{plainRules, bowCell, overCell, partlyCell, repeatCell}
 use Rattle.layout.specs.Shown.{Shows}
-use Rattle.shown.proofs.Parts.{each-agree, walk-places}
+use Rattle.laws.proofs.ListLaws.{each-agree}
+use Rattle.shown.proofs.Parts.{walk-places}
 use Rattle.shown.proofs.Numbered.{cells-long}
 use Rattle.shown.proofs.OneCell.{bow-cell, over-cell, partly-cell, repeat-cell}
 

@@ -7,7 +7,7 @@ use native.Mathlib.Nat.{zero-add}
 use native.Mathlib.Omega.{arith}
 use lib.ListN.{length, getD, take, drop, length-append, length-map, List·getD-map}
 use Rattle.laws.specs.Lists.{onlyIf, first, each, upFrom}
-use Rattle.laws.proofs.ListLaws.{length-upFrom, getD-upFrom}
+use Rattle.laws.proofs.ListLaws.{length-upFrom, getD-upFrom, each-agree}
 use Rattle.mesh.specs.Model.{Model, Raw, cellsOf}
 use Rattle.mesh.specs.Rings.{Cell, Face, ringsOf, facesOf, faces}
 use Rattle.snap.specs.Weld.{weldedBy}
@@ -19,7 +19,7 @@ use Rattle.layout.specs.declared.Layout.{Layout}
 use Rattle.layout.specs.Tables.{firstOf, faceRow, facesAt, facesOfCell}
 use Rattle.layout.specs.ByCell.{plainRules, bowCell, overFace, overCell, pairFound, pairCells, partlyCell, repeatCell}
 use Rattle.layout.specs.Shown.{Shows}
-use Rattle.shown.proofs.Parts.{each-agree, map-agree, map-part, walk-part, each-drop}
+use Rattle.shown.proofs.Parts.{map-agree, map-part, walk-part, each-drop}
 use Rattle.shown.proofs.Numbered.{cells-long, num-in, raw-in, faces-before, faces-more, faces-around}
 
 module _ (l : Layout) (t : List ℕ) where

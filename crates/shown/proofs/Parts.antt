@@ -12,12 +12,7 @@ use Rattle.findings.proofs.Laws.{length-snoc}
 -- ---- the numbers from i on
 
 module _ {ℓ} {B : Type ℓ} where
-  -- two functions that agree on these numbers give the same lists
-  pub each-agree : (f g : ℕ → List B) (i n : ℕ) → ((k : ℕ) → i ≤ k → k < i + n → f k ≡ g k) → each f (upFrom i n) ≡ each g (upFrom i n)
-  each-agree f g i zero h = refl
-  each-agree f g i (suc n) h = ap₂ (λ (a b : List B). a ++ b) (h i (omega arith) (omega arith)) (each-agree f g (suc i) n (λ k a b. h k (omega arith) (omega arith)))
-
-  -- and the same elements
+  -- two functions that agree on these numbers give the same elements
   pub map-agree : (f g : ℕ → B) (i n : ℕ) → ((k : ℕ) → i ≤ k → k < i + n → f k ≡ g k) → map f (upFrom i n) ≡ map g (upFrom i n)
   map-agree f g i zero h = refl
   map-agree f g i (suc n) h = ap₂ (λ (a : B) (b : List B). a ∷ b) (h i (omega arith) (omega arith)) (map-agree f g (suc i) n (λ k a b. h k (omega arith) (omega arith)))

@@ -8,7 +8,7 @@ use borrow.Author.Tests.{ltb-false, ne-eqb}
 use lib.Dec.{eqb, ltb}
 use lib.Ieee.{Float}
 use lib.ListN.{length, drop, replicate, length-replicate}
-use lib.Seq.{sets, sets-eq, length-sets}
+use lib.Seq.{sets, length-sets}
 use Rattle.laws.specs.Lists.{upFrom}
 use Rattle.laws.specs.Merging.{region, AllBelow}
 use Rattle.laws.specs.Refusals.{refused, refusal}

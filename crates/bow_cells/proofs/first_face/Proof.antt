@@ -3,7 +3,7 @@ use mathlib.Core.Path.{_∙_}
 use Prim.Native.Nat.{_+_}
 use native.Mathlib.Omega.{arith}
 use borrow.Author.Needs.{needs}
-use Rattle.bow_cells.proofs.Reading.{tables-in, word-is}
+use Rattle.layout.proofs.Ringing.{tables-in, word-is}
 use Rattle.bow_cells.proofs.first_face.Statement.{statement}
 use Rattle.bow_cells.proofs.first_face.Tie as tie
 

@@ -4,30 +4,31 @@ use mathlib.Core.Path.{refl, _∙_}
 use native.Mathlib.Omega.{arith}
 use borrow.Author.Needs.{needs}
 use lib.ListN.{length}
-use Rattle.bow_cells.proofs.Reading.{Ring, tables-in, rows-rise, rows-within, ring-short, part-short, ring-known, loaded, asked, answered}
+use Rattle.layout.proofs.Ringing.{Ring, tables-in, rows-rise}
+use Rattle.bow_cells.proofs.Reading.{ring-ends, ring-short, part-short, ring-known, loaded, asked, answered}
 use Rattle.bow_cells.proofs.ring_meets.Statement.{statement}
 use Rattle.bow_cells.proofs.ring_meets.Tie as tie
 
 -- where the ring starts and ends
-ring : (c : tie.After-row2) → Ring (c .before .before .before .before .before .args .l) (c .before .before .before .before .before .args .work .now) (c .before .before .before .before .before .args .g) (c .before .row .result) (c .row2 .result)
+ring : (c : tie.After-ring-row2) → Ring (c .before .before .before .before .before .args .l) (c .before .before .before .before .before .args .work .now) (c .before .before .before .before .before .args .g) (c .before .ring-row .result) (c .ring-row2 .result)
 ring c =
     let s = c .before .before .before .before .before in
-    record { ringed = s .pre .0; face = s .pre .2; from = c .before .row .ensures .0; to = c .row2 .ensures .0 }
+    record { ringed = s .pre .0; face = s .pre .2; from = c .before .ring-row .ensures .0; to = c .ring-row2 .ensures .0 }
 
 -- it lies in the slice
-lies : (c : tie.After-row2) → (c .before .row .result ≤ c .row2 .result) × (c .before .before .before .before .before .args .l .rings + c .row2 .result ≤ length (c .before .before .before .before .before .args .work .now))
+lies : (c : tie.After-ring-row2) → (c .before .ring-row .result ≤ c .ring-row2 .result) × (c .before .before .before .before .before .args .l .rings + c .ring-row2 .result ≤ length (c .before .before .before .before .before .args .work .now))
 lies c =
     let s = c .before .before .before .before .before in
-    (rows-rise (ring c), omega (arith, rows-within (ring c), tables-in (s .args .l) (s .args .work .now) (s .pre .0)))
+    (rows-rise (ring c), omega (arith, ring-ends (ring c), tables-in (s .args .l) (s .args .work .now) (s .pre .0)))
 
-row-requires : tie.Need-row-requires
-row-requires c κs = search needs
+ring-row-requires : tie.Need-ring-row-requires
+ring-row-requires c κs = search needs
 
-add-row : tie.Need-add-row
-add-row c = search needs
+add-ring-row : tie.Need-add-ring-row
+add-ring-row c = search needs
 
-row-requires-2 : tie.Need-row-requires-2
-row-requires-2 c κs = search needs
+ring-row-requires-2 : tie.Need-ring-row-requires-2
+ring-row-requires-2 c κs = search needs
 
 add-start : tie.Need-add-start
 add-start c = search needs
@@ -84,9 +85,9 @@ pub ring-meets-spec : {M : Type 1} → statement M
 ring-meets-spec =
     tie.close
     (tie.spec
-    row-requires
-    add-row
-    row-requires-2
+    ring-row-requires
+    add-ring-row
+    ring-row-requires-2
     add-start
     add-end
     sub-n

@@ -8,25 +8,25 @@ use lib.ListN.{take}
 use lib.Seq.{sets}
 use Rattle.laws.specs.Lists.{sort}
 use Rattle.layout.specs.Tables.{ringRow}
-use Rattle.node_sets.proofs.Reading.{Ring, rows-rise, rows-within, ring-is, ring-long}
+use Rattle.layout.proofs.Ringing.{Ring, rows-rise, rows-within, ring-is, ring-long}
 use Rattle.node_sets.proofs.Keys.{sorted-there}
 use Rattle.node_sets.proofs.put_key.Statement.{statement}
 use Rattle.node_sets.proofs.put_key.Tie as tie
 
 -- where the ring starts and ends
-ring : (c : tie.After-row2) → Ring (c .before .before .before .before .before .args .l) (c .before .before .before .before .before .args .work .now) (c .before .before .before .before .before .args .g) (c .before .before .row .result) (c .row2 .result)
+ring : (c : tie.After-ring-row2) → Ring (c .before .before .before .before .before .args .l) (c .before .before .before .before .before .args .work .now) (c .before .before .before .before .before .args .g) (c .before .before .ring-row .result) (c .ring-row2 .result)
 ring c =
     let s = c .before .before .before .before .before in
-    record { ringed = s .pre .0; face = s .pre .3; from = c .before .before .row .ensures .0; to = c .row2 .ensures .0 }
+    record { ringed = s .pre .0; face = s .pre .3; from = c .before .before .ring-row .ensures .0; to = c .ring-row2 .ensures .0 }
 
-row-requires : tie.Need-row-requires
-row-requires c κs = search needs
+ring-row-requires : tie.Need-ring-row-requires
+ring-row-requires c κs = search needs
 
-add-row : tie.Need-add-row
-add-row c = search needs
+add-ring-row : tie.Need-add-ring-row
+add-ring-row c = search needs
 
-row-requires-2 : tie.Need-row-requires-2
-row-requires-2 c κs = search needs
+ring-row-requires-2 : tie.Need-ring-row-requires-2
+ring-row-requires-2 c κs = search needs
 
 sub-n : tie.Need-sub-n
 sub-n c = rows-rise (ring c)
@@ -52,7 +52,7 @@ returns c =
     let a = s .args in
     let r = ring (c .before .before .before .before .before .before .before .before .before .before) in
     let row = ringRow (a .l) (take (a .l .at .bows) (a .work .now)) (a .g) in
-    let o = a .l .keys + c .before .before .before .before .before .before .before .before .before .before .before .before .row .result in
+    let o = a .l .keys + c .before .before .before .before .before .before .before .before .before .before .before .before .ring-row .result in
     let put = c .before .before .before .before .before .before .copy .ensures ∙ ap (sets (a .work .now) o) (ring-is r) in
     sorted-there (a .work .now) _ _ row o _ (ring-long r) (omega (arith, rows-rise r, rows-within r, s .pre .2)) put (c .before .before .sort-words .ensures)
     ∙ ap (λ (k : ℕ). sets (a .work .now) (a .l .keys + k) (sort leb row)) (r .from)
@@ -61,9 +61,9 @@ pub put-key-spec : {M : Type 1} → statement M
 put-key-spec =
     tie.close
     (tie.spec
-    row-requires
-    add-row
-    row-requires-2
+    ring-row-requires
+    add-ring-row
+    ring-row-requires-2
     sub-n
     add-from
     add-to

@@ -6,25 +6,25 @@ use native.Mathlib.Omega.{arith}
 use borrow.Author.Needs.{needs}
 use lib.ListN.{length, set, length-set}
 use lib.Seq.{sets}
-use Rattle.node_sets.proofs.Reading.{Ring, rows-rise, rows-within}
+use Rattle.layout.proofs.Ringing.{Ring, rows-rise, rows-within}
 use Rattle.node_sets.proofs.Putting.{set-is}
 use Rattle.node_sets.proofs.put_set.Statement.{statement}
 use Rattle.node_sets.proofs.put_set.Tie as tie
 
 -- where the key starts and ends
-ring : (c : tie.After-row2) → Ring (c .before .before .before .before .before .before .args .l) (c .before .before .before .before .before .before .args .work .now) (c .before .before .before .before .before .before .args .g) (c .before .before .row .result) (c .row2 .result)
+ring : (c : tie.After-ring-row2) → Ring (c .before .before .before .before .before .before .args .l) (c .before .before .before .before .before .before .args .work .now) (c .before .before .before .before .before .before .args .g) (c .before .before .ring-row .result) (c .ring-row2 .result)
 ring c =
     let s = c .before .before .before .before .before .before in
-    record { ringed = s .pre .0 .ringed; face = s .pre .1; from = c .before .before .row .ensures .0; to = c .row2 .ensures .0 }
+    record { ringed = s .pre .0 .ringed; face = s .pre .1; from = c .before .before .ring-row .ensures .0; to = c .ring-row2 .ensures .0 }
 
-row-requires : tie.Need-row-requires
-row-requires c κs = search needs
+ring-row-requires : tie.Need-ring-row-requires
+ring-row-requires c κs = search needs
 
-add-row : tie.Need-add-row
-add-row c = search needs
+add-ring-row : tie.Need-add-ring-row
+add-ring-row c = search needs
 
-row-requires-2 : tie.Need-row-requires-2
-row-requires-2 c κs = search needs
+ring-row-requires-2 : tie.Need-ring-row-requires-2
+ring-row-requires-2 c κs = search needs
 
 sub-n : tie.Need-sub-n
 sub-n c = rows-rise (ring c)
@@ -81,9 +81,9 @@ pub put-set-spec : {M : Type 1} → statement M
 put-set-spec =
     tie.close
     (tie.spec
-    row-requires
-    add-row
-    row-requires-2
+    ring-row-requires
+    add-ring-row
+    ring-row-requires-2
     sub-n
     add-from
     add-to

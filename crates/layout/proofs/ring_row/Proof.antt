@@ -1,11 +1,11 @@
--- `bow_cells::row` meets its contract.
+-- `layout::ring_row` meets its contract.
 use mathlib.Core.Path.{_∙_}
 use Prim.Native.Nat.{_+_}
 use native.Mathlib.Omega.{arith}
 use borrow.Author.Needs.{needs}
-use Rattle.bow_cells.proofs.Reading.{tables-in, word-is}
-use Rattle.bow_cells.proofs.row.Statement.{statement}
-use Rattle.bow_cells.proofs.row.Tie as tie
+use Rattle.layout.proofs.Ringing.{tables-in, word-is}
+use Rattle.layout.proofs.ring_row.Statement.{statement}
+use Rattle.layout.proofs.ring_row.Tie as tie
 
 add-at : tie.Need-add-at
 add-at c = search needs
@@ -29,5 +29,5 @@ returns c =
     let e = c .wide .ensures ∙ word-is (b .args .l) (b .args .work .now) (b .pre .0) (b .args .l .rows + b .args .g) (omega (arith, b .pre .0 .rows-at, b .pre .1)) in
     (e, omega (arith, e, b .pre .0 .within (b .args .g) (b .pre .1)))
 
-pub row-spec : {M : Type 1} → statement M
-row-spec = tie.close (tie.spec add-at mul-wide shared-slice-read-wide wide-requires returns)
+pub ring-row-spec : {M : Type 1} → statement M
+ring-row-spec = tie.close (tie.spec add-at mul-wide shared-slice-read-wide wide-requires returns)
