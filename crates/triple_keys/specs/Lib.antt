@@ -1,0 +1,2 @@
+-- For internal contracts: the keys by which faces are found.
+pub mod Keys
