@@ -17,10 +17,11 @@ use Rattle.laws.proofs.Tests.{or-cases, and-parts}
 use Rattle.laws.proofs.Stores.{getD-region}
 use Rattle.laws.proofs.Ascending.{elem-keep, elem-upFrom}
 use Rattle.index.specs.declared.Places.{Places}
-use Rattle.index.specs.Faces.{input, base}
+use Rattle.index.specs.Faces.{input, base, nodesOf, facesWith}
 use Rattle.merge.specs.Runs.{rest}
+use Rattle.seek.specs.Candidates.{shares}
 use Rattle.seek.proofs.Merging.{all-of}
-use Rattle.triples.specs.Hits.{hit, hits3, hits2, hits1, Open, Added, Span}
+use Rattle.triples.specs.Hits.{hitsBy, Open, Added}
 use Rattle.triples.proofs.Adds.{Faces, Prog, prog-start, prog-open, prog-base, prog-input, prog-length, prog-step, prog-end}
 
 -- the words from i on begin with word i
@@ -36,34 +37,13 @@ rest-none i e b h = let s : e - i ≡ 0 = omega arith in ap (λ (m : ℕ). take 
 -- ---- all that is added are faces
 
 -- two lists of faces
-faces-append : (p : Places) (a b : List ℕ) → Faces p a → Faces p b → Faces p (a ++ b)
+pub faces-append : (p : Places) (a b : List ℕ) → Faces p a → Faces p b → Faces p (a ++ b)
 faces-append p a b f g x e = ⊎-elim (f x) (g x) (or-cases (elem x a) (elem x b) (sym (any-append (eqb x) a b) ∙ e))
 
 -- lists of faces one after the other
-faces-each : (p : Places) (f : ℕ → List ℕ) → ((x : ℕ) → Faces p (f x)) → (l : List ℕ) → Faces p (each f l)
+pub faces-each : (p : Places) (f : ℕ → List ℕ) → ((x : ℕ) → Faces p (f x)) → (l : List ℕ) → Faces p (each f l)
 faces-each p f h [] = λ x e. absurd (false≢true e)
 faces-each p f h (y ∷ l) = faces-append p (f y) (each f l) (h y) (faces-each p f h l)
-
--- the hits of a triple
-faces-hits3 : (p : Places) (t : List ℕ) (lo a b c : ℕ) → Faces p (hits3 p t lo a b c)
-unfolding hits3
-faces-hits3 p t lo a b c x e =
-    let u : elem x (upFrom 0 (p .faces)) ≡ true = and-parts (hit p t lo a b c x) (elem x (upFrom 0 (p .faces))) (sym (elem-keep x (hit p t lo a b c) (upFrom 0 (p .faces))) ∙ e) .1 in
-    omega (arith, ltb-true x (0 + p .faces) (and-parts (leb 0 x) (ltb x (0 + p .faces)) (sym (elem-upFrom x 0 (p .faces)) ∙ u) .1))
-
--- of two nodes with each of a list
-pub faces-pair : (p : Places) (t : List ℕ) (lo a b : ℕ) (l : List ℕ) → Faces p (each (hits3 p t lo a b) l)
-faces-pair p t lo a b l = faces-each p (hits3 p t lo a b) (faces-hits3 p t lo a b) l
-
--- of a node with each two
-pub faces-node : (p : Places) (t : List ℕ) (lo a : ℕ) (l : List ℕ) → Faces p (hits2 p t lo a l)
-faces-node p t lo a [] = λ x e. absurd (false≢true e)
-faces-node p t lo a (b ∷ l) = faces-append p (each (hits3 p t lo a b) l) (hits2 p t lo a l) (faces-pair p t lo a b l) (faces-node p t lo a l)
-
--- of each three
-pub faces-all : (p : Places) (t : List ℕ) (lo : ℕ) (l : List ℕ) → Faces p (hits1 p t lo l)
-faces-all p t lo [] = λ x e. absurd (false≢true e)
-faces-all p t lo (a ∷ l) = faces-append p (hits2 p t lo a l) (hits1 p t lo l) (faces-node p t lo a l) (faces-all p t lo l)
 
 -- what holds of the words from s to e
 pub of-rest : (P : ℕ → Type 0) (s e : ℕ) (b : List ℕ) → e ≤ length b → ((i : ℕ) → s ≤ i → i < e → P (getD b i 0)) → (x : ℕ) → elem x (rest s e b) ≡ true → P x
@@ -75,6 +55,14 @@ of-rest P s e b h f =
 -- those that pass a test
 pub faces-kept : (p : Places) (q : ℕ → Bool) (l : List ℕ) → Faces p l → Faces p (keep q l)
 faces-kept p q l f x e = f x (and-parts (q x) (elem x l) (sym (elem-keep x q l) ∙ e) .1)
+
+-- those of a key
+pub faces-hits : (p q : Places) (b : List ℕ) (lo v : ℕ) → q .faces ≡ p .faces → Faces p (hitsBy p q b lo v)
+unfolding hitsBy facesWith
+faces-hits p q b lo v same =
+    faces-kept p (shares p (input p b) lo) (keep (λ g. elem v (nodesOf q (input q b) g)) (upFrom 0 (q .faces)))
+    (faces-kept p (λ g. elem v (nodesOf q (input q b) g)) (upFrom 0 (q .faces))
+    (λ x e. omega (arith, same, ltb-true x (0 + q .faces) (and-parts (leb 0 x) (ltb x (0 + q .faces)) (sym (elem-upFrom x 0 (q .faces)) ∙ e) .1))))
 
 -- ---- the loop
 
@@ -114,10 +102,6 @@ module _ (p : Places) (lo n : ℕ) (w : List ℕ) (op : Open p lo n w) (s e : �
     -- word i is as at the start
     pub held-read : i < e → getD v i 0 ≡ getD B i 0
     held-read k = sym (getD-take (p .found) v i 0 (omega arith)) ∙ ap (λ (l : List ℕ). getD l i 0) held-base
-
-    -- the words behind are nodes
-    pub held-span : (j : ℕ) → s ≤ j → Span p w s e → Span p v j e
-    held-span j k sp = record { within = sp .within; known = λ m a b. subst (λ (l : List ℕ). getD l m 0 < p .nodes) (sym held-base) (sp .known m (omega arith) b) }
 
     -- one piece is added
     pub held-next : i < e → (q : ℕ) (u : List ℕ) → Added p (F (getD B i 0) (rest (i + 1) e B)) r v q u → Held (i + 1) q u

@@ -1,35 +1,23 @@
--- The faces that share a triple of nodes, and what the search by triples holds between its steps. Only contracts of functions that are not
--- public cite these: the public one promises what the search by nodes does.
-use Prim.Native.Nat.{ℕ, _≤_, _<_}
-use mathlib.Core.Bool.{Bool, true, _&&_}
+-- What the search by triples holds between its steps. Only contracts of functions that are not public cite these: the public one promises
+-- what the search by nodes does.
+use Prim.Native.Nat.{ℕ, _+_, _≤_, _<_}
+use mathlib.Core.Bool.{true}
 use mathlib.Core.List.{List, [], _∷_, _++_}
 use mathlib.Core.Path.{_≡_}
 use lib.Dec.{leb}
 use lib.ListN.{length, getD}
 use lib.Seq.{sets}
 use Rattle.laws.specs.Merging.{region}
-use Rattle.laws.specs.Lists.{each, keep, upFrom, elem, add}
+use Rattle.laws.specs.Lists.{each, keep, elem, add}
 use Rattle.laws.proofs.Ascending.{Asc}
 use Rattle.index.specs.declared.Places.{Places}
-use Rattle.index.specs.Faces.{base, nodesOf}
-use Rattle.seek.specs.Candidates.{Ready}
-use Rattle.seek.specs.Steps.{early}
+use Rattle.index.specs.Faces.{input, base, startOf, nodesOf, facesWith, Indexed}
+use Rattle.merge.specs.Runs.{rest}
+use Rattle.seek.specs.Candidates.{shares, Ready}
 
--- g meets all of the condition but three common nodes, and has a, b and c
-unfoldable pub hit : Places → List ℕ → (lo a b c g : ℕ) → Bool
-hit p t lo a b c g = early p t lo g && (elem a (nodesOf p t g) && (elem b (nodesOf p t g) && elem c (nodesOf p t g)))
-
-unfoldable pub hits3 : Places → List ℕ → (lo a b c : ℕ) → List ℕ
-hits3 p t lo a b c = keep (hit p t lo a b c) (upFrom 0 (p .faces))
-
--- a with each two of a list, and each three of a list
-abbrev pub hits2 : Places → List ℕ → (lo a : ℕ) → List ℕ → List ℕ
-hits2 p t lo a [] = []
-hits2 p t lo a (b ∷ l) = each (hits3 p t lo a b) l ++ hits2 p t lo a l
-
-abbrev pub hits1 : Places → List ℕ → (lo : ℕ) → List ℕ → List ℕ
-hits1 p t lo [] = []
-hits1 p t lo (a ∷ l) = hits2 p t lo a l ++ hits1 p t lo l
+-- the candidates of lo among the faces that have key v in the index q; b holds what is read
+unfoldable pub hitsBy : (p q : Places) → List ℕ → (lo v : ℕ) → List ℕ
+hitsBy p q b lo v = keep (shares p (input p b) lo) (facesWith q (input q b) v)
 
 -- each of a list added to an ascending list, the first first
 abbrev pub addAll : List ℕ → List ℕ → List ℕ
@@ -52,7 +40,27 @@ pub record Added (p : Places) (xs : List ℕ) (n : ℕ) (w : List ℕ) (r : ℕ)
   pub number : r ≡ length (addAll xs (listed p n w))
   pub filled : v ≡ sets w (p .found) (addAll xs (listed p n w))
 
--- the words from s to e are nodes
-pub record Span (p : Places) (w : List ℕ) (s e : ℕ) : Type 0 where
-  pub within : e ≤ p .found
-  pub known : (i : ℕ) → s ≤ i → i < e → getD (base p w) i 0 < p .nodes
+-- b holds q, an index of the same faces
+pub record Beside (p q : Places) (b : List ℕ) : Type 0 where
+  pub indexed : Indexed q b
+  pub found : q .found ≡ p .found
+  pub faces : q .faces ≡ p .faces
+
+-- the words of b from s to e are keys of q
+abbrev pub Known : Places → List ℕ → (s e : ℕ) → Type 0
+Known q b s e = (i : ℕ) → s ≤ i → i < e → getD b i 0 < q .nodes
+
+-- the nodes of face lo stand from s to e
+pub record NodesAt (p : Places) (b : List ℕ) (lo s e : ℕ) : Type 0 where
+  pub start : s ≡ p .sets + startOf p (input p b) lo
+  pub end : e ≡ s + length (nodesOf p (input p b) lo)
+
+-- the candidates added that have one of the keys from s to e, whatever two keys are left out
+pub record AddedRare (p q : Places) (lo n s e : ℕ) (w : List ℕ) (r : ℕ) (v : List ℕ) : Type 0 where
+  pub i : ℕ
+  pub j : ℕ
+  pub places : (s ≤ i) × (i < j) × (j < e)
+  pub added :
+      Added p
+      (each (hitsBy p q (base p w) lo) (rest s i (base p w)) ++ (each (hitsBy p q (base p w) lo) (rest (i + 1) j (base p w)) ++ each (hitsBy p q (base p w) lo) (rest (j + 1) e (base p w)))) n w
+      r v

@@ -1,49 +1,76 @@
 // Candidates of a face, by node triples.
 ghost use mathlib.Core.Path.{_≡_};
-ghost use mathlib.Core.Bool.{true};
-ghost use mathlib.Core.List.{[], _∷_};
+ghost use mathlib.Core.List.{[], _∷_, _++_};
 ghost use Prim.Native.Nat.{ℕ, _+_, _≤_, _<_};
-ghost use lib.ListN.{getD};
-ghost use Rattle.laws.specs.Lists.{onlyIf, each, keep, elem};
+ghost use lib.Dec.{leb};
+ghost use lib.ListN.{length, getD};
+ghost use Rattle.laws.specs.Lists.{onlyIf, each, keep};
+ghost use Rattle.laws.specs.Merging.{region};
 ghost use Rattle.counting.specs.Counts.{times};
 ghost use Rattle.index.specs.Faces.{input, base, nodesOf, wordsOf, Indexed};
 ghost use Rattle.merge.specs.Runs.{rest};
-ghost use Rattle.seek.specs.Candidates.{Ready, Sought};
-ghost use Rattle.triples.specs.Hits.{hit, hits3, hits2, hits1, Open, Added, Span};
+ghost use Rattle.seek.specs.Candidates.{common, shares, Ready, Sought};
+ghost use Rattle.triple_keys.specs.Keys.{Keyed};
+ghost use Rattle.triples.specs.Hits.{hitsBy, Open, Added, Beside, Known, NodesAt, AddedRare};
 
-// Face g has node v.
-fn face_has(base: &[u32], at: index::Places, g: usize, v: u32) -> bool
-    requires { ⌜ Indexed at (now base) ⌝ }
-    requires { ⌜ g < at .faces ⌝ }
-    ensures { λ r. ⌜ r ≡ elem v (nodesOf at (input at (now (base .entry))) g) ⌝ }
-{
-    let s = seek::set_start(base, at, g);
-    let k = seek::set_size(base, at, g);
-    ascending::has(base, s, k, v)
+// Two places of keys, the lower first, and how many faces have these.
+pub struct Two {
+    pub i: usize,
+    pub j: usize,
+    pub x: usize,
+    pub y: usize,
 }
 
-// Face g has the three nodes and meets the rest of the condition: the cheap tests first, the node sets last.
-fn is_hit(base: &[u32], at: index::Places, lo: usize, a: u32, b: u32, c: u32, g: usize) -> bool
+// Three or more of the k words from s on stand among the j from t on.
+fn has_three(base: &[u32], s: usize, k: usize, t: usize, j: usize) -> bool
+    requires { ⌜ (s + k ≤ length (now base)) × (t + j ≤ length (now base)) ⌝ }
+    ensures { λ r. ⌜ r ≡ leb 3 (length (common (region s k (now (base .entry))) (region t j (now (base .entry))))) ⌝ }
+{
+    let mut n: usize = 0;
+    let mut i = 0;
+    while i < k {
+        if ascending::has(base, t, j, base[s + i]) {
+            if n == 2 {
+                return true;
+            }
+            n += 1;
+            i += 1;
+        } else {
+            i += 1;
+        }
+    }
+    false
+}
+
+// Faces lo and g have three or more nodes in common.
+fn share_three(base: &[u32], at: index::Places, lo: usize, g: usize) -> bool
     requires { ⌜ Indexed at (now base) ⌝ }
     requires { ⌜ (lo < at .faces) × (g < at .faces) ⌝ }
-    ensures { λ r. ⌜ r ≡ hit at (input at (now (base .entry))) lo a b c g ⌝ }
+    ensures { λ r. ⌜ r ≡ leb 3 (length (common (nodesOf at (input at (now (base .entry))) lo) (nodesOf at (input at (now (base .entry))) g))) ⌝ }
+{
+    let s = seek::set_start(base, at, lo);
+    let k = seek::set_size(base, at, lo);
+    let t = seek::set_start(base, at, g);
+    let j = seek::set_size(base, at, g);
+    has_three(base, s, k, t, j)
+}
+
+// Face g is a candidate of lo: the cheap tests first, the whole node sets last.
+fn is_hit(base: &[u32], at: index::Places, lo: usize, g: usize) -> bool
+    requires { ⌜ Indexed at (now base) ⌝ }
+    requires { ⌜ (lo < at .faces) × (g < at .faces) ⌝ }
+    ensures { λ r. ⌜ r ≡ shares at (input at (now (base .entry))) lo g ⌝ }
 {
     if !seek::is_apart(base, at, lo, g) {
         return false;
     }
-    if !face_has(base, at, g, a) {
-        return false;
-    }
-    if !face_has(base, at, g, b) {
-        return false;
-    }
-    if !face_has(base, at, g, c) {
+    if !share_three(base, at, lo, g) {
         return false;
     }
     !seek::same_set(base, at, lo, g)
 }
 
-// How many faces have node v.
+// How many faces have key v.
 pub fn list_length(base: &[u32], at: index::Places, v: usize) -> usize
     requires { ⌜ Indexed at (now base) ⌝ }
     requires { ⌜ v < at .nodes ⌝ }
@@ -53,44 +80,14 @@ pub fn list_length(base: &[u32], at: index::Places, v: usize) -> usize
     counting::wide(base[slot + 1]) - counting::wide(base[slot])
 }
 
-// Of three nodes, one that the fewest faces have.
-fn shortest(base: &[u32], at: index::Places, a: u32, b: u32, c: u32) -> u32
-    requires { ⌜ Indexed at (now base) ⌝ }
-    requires { ⌜ (a < at .nodes) × (b < at .nodes) × (c < at .nodes) ⌝ }
-    ensures { λ r. ⌜ elem r (a ∷ b ∷ c ∷ []) ≡ true ⌝ }
-{
-    let x = list_length(base, at, counting::wide(a));
-    let y = list_length(base, at, counting::wide(b));
-    let z = list_length(base, at, counting::wide(c));
-    if x <= y {
-        if x <= z {
-            return a;
-        }
-        return c;
-    }
-    if y <= z {
-        return b;
-    }
-    c
-}
-
-// Adds face g to the n candidates where it is a hit.
-fn consider(
-    work: &mut [u32],
-    at: index::Places,
-    lo: usize,
-    a: u32,
-    b: u32,
-    c: u32,
-    n: usize,
-    g: usize,
-) -> usize
+// Adds face g to the n candidates where it is one.
+fn consider(work: &mut [u32], at: index::Places, lo: usize, n: usize, g: usize) -> usize
     requires { ⌜ Open at lo n (now work) ⌝ }
     requires { ⌜ g < at .faces ⌝ }
-    ensures { λ r. ⌜ Added at (onlyIf (hit at (input at (now (work .entry))) lo a b c g) (g ∷ [])) n (now (work .entry)) r (now (work .exit)) ⌝ }
+    ensures { λ r. ⌜ Added at (onlyIf (shares at (input at (base at (now (work .entry)))) lo g) (g ∷ [])) n (now (work .entry)) r (now (work .exit)) ⌝ }
 {
     let found = at.found;
-    if is_hit(&work[..found], at, lo, a, b, c, g) {
+    if is_hit(&work[..found], at, lo, g) {
         let v = counting::narrow(g);
         return ascending::insert(work, found, n, v);
     }
@@ -98,124 +95,156 @@ fn consider(
 }
 
 // The faces that stand from x to e.
-fn walk(
-    work: &mut [u32],
-    at: index::Places,
-    lo: usize,
-    a: u32,
-    b: u32,
-    c: u32,
-    n: usize,
-    x: usize,
-    e: usize,
-) -> usize
+fn walk(work: &mut [u32], at: index::Places, lo: usize, n: usize, x: usize, e: usize) -> usize
     requires { ⌜ Open at lo n (now work) ⌝ }
     requires { ⌜ (e ≤ at .found) × ((i : ℕ) → x ≤ i → i < e → getD (base at (now work)) i 0 < at .faces) ⌝ }
-    ensures { λ r. ⌜ Added at (keep (hit at (input at (now (work .entry))) lo a b c) (rest x e (base at (now (work .entry))))) n (now (work .entry)) r (now (work .exit)) ⌝ }
+    ensures { λ r. ⌜ Added at (keep (shares at (input at (base at (now (work .entry)))) lo) (rest x e (base at (now (work .entry))))) n (now (work .entry)) r (now (work .exit)) ⌝ }
 {
     let mut n = n;
     let mut i = x;
     while i < e {
         let g = counting::wide(work[i]);
-        n = consider(work, at, lo, a, b, c, n, g);
+        n = consider(work, at, lo, n, g);
         i += 1;
     }
     n
 }
 
-// All faces that have the three nodes: those of the shortest list.
-fn by_triple(
+// All faces that have key v.
+fn walk_key(
     work: &mut [u32],
     at: index::Places,
+    by: index::Places,
     lo: usize,
-    a: u32,
-    b: u32,
-    c: u32,
     n: usize,
+    v: usize,
 ) -> usize
     requires { ⌜ Open at lo n (now work) ⌝ }
-    requires { ⌜ (a < at .nodes) × (b < at .nodes) × (c < at .nodes) ⌝ }
-    ensures { λ r. ⌜ Added at (hits3 at (input at (now (work .entry))) lo a b c) n (now (work .entry)) r (now (work .exit)) ⌝ }
+    requires { ⌜ Beside at by (base at (now work)) × (v < by .nodes) ⌝ }
+    ensures { λ r. ⌜ Added at (hitsBy at by (base at (now (work .entry))) lo v) n (now (work .entry)) r (now (work .exit)) ⌝ }
+{
+    let slot = by.offsets + v;
+    let x = by.index + counting::wide(work[slot]);
+    let e = by.index + counting::wide(work[slot + 1]);
+    walk(work, at, lo, n, x, e)
+}
+
+// All faces that have one of the keys that stand from s to e.
+fn walk_keys(
+    work: &mut [u32],
+    at: index::Places,
+    by: index::Places,
+    lo: usize,
+    n: usize,
+    s: usize,
+    e: usize,
+) -> usize
+    requires { ⌜ Open at lo n (now work) ⌝ }
+    requires { ⌜ Beside at by (base at (now work)) × (e ≤ at .found) × Known by (base at (now work)) s e ⌝ }
+    ensures { λ r. ⌜ Added at (each (hitsBy at by (base at (now (work .entry))) lo) (rest s e (base at (now (work .entry))))) n (now (work .entry)) r (now (work .exit)) ⌝ }
+{
+    let mut n = n;
+    let mut i = s;
+    while i < e {
+        let v = counting::wide(work[i]);
+        n = walk_key(work, at, by, lo, n, v);
+        i += 1;
+    }
+    n
+}
+
+// The two places with k, whose list has m faces: the two of the longest lists.
+fn longer(t: Two, k: usize, m: usize) -> Two
+    requires { ⌜ (t .i < t .j) × (t .j < k) ⌝ }
+    ensures { λ r. ⌜ (t .i ≤ r .i) × (r .i < r .j) × (r .j ≤ k) ⌝ }
+{
+    if t.x < t.y {
+        if t.x < m {
+            return Two {
+                i: t.j,
+                j: k,
+                x: t.y,
+                y: m,
+            };
+        }
+        return t;
+    }
+    if t.y < m {
+        return Two {
+            i: t.i,
+            j: k,
+            x: t.x,
+            y: m,
+        };
+    }
+    t
+}
+
+// Of the keys from s to e two that the most faces have.
+fn two_longest(base: &[u32], by: index::Places, s: usize, e: usize) -> Two
+    requires { ⌜ Indexed by (now base) ⌝ }
+    requires { ⌜ (s + 2 ≤ e) × (e ≤ length (now base)) × Known by (now base) s e ⌝ }
+    ensures { λ r. ⌜ (s ≤ r .i) × (r .i < r .j) × (r .j < e) ⌝ }
+{
+    let mut t = Two {
+        i: s,
+        j: s + 1,
+        x: list_length(base, by, counting::wide(base[s])),
+        y: list_length(base, by, counting::wide(base[s + 1])),
+    };
+    let mut k = s + 2;
+    while k < e {
+        t = longer(t, k, list_length(base, by, counting::wide(base[k])));
+        k += 1;
+    }
+    t
+}
+
+// All faces that have one of the keys from s to e, but for two keys that the most faces have: who shares three has one of the others.
+fn walk_rare(
+    work: &mut [u32],
+    at: index::Places,
+    by: index::Places,
+    lo: usize,
+    n: usize,
+    s: usize,
+    e: usize,
+) -> usize
+    requires { ⌜ Open at lo n (now work) ⌝ }
+    requires { ⌜ Beside at by (base at (now work)) × (s + 2 ≤ e) × (e ≤ at .found) × Known by (base at (now work)) s e ⌝ }
+    ensures { λ r. ⌜ AddedRare at by lo n s e (now (work .entry)) r (now (work .exit)) ⌝ }
 {
     let found = at.found;
-    let m = shortest(&work[..found], at, a, b, c);
-    let slot = at.offsets + counting::wide(m);
-    let x = at.index + counting::wide(work[slot]);
-    let e = at.index + counting::wide(work[slot + 1]);
-    walk(work, at, lo, a, b, c, n, x, e)
+    let t = two_longest(&work[..found], by, s, e);
+    let a = walk_keys(work, at, by, lo, n, s, t.i);
+    let b = walk_keys(work, at, by, lo, a, t.i + 1, t.j);
+    walk_keys(work, at, by, lo, b, t.j + 1, e)
 }
 
-// The two nodes with each that stands from s to e.
-fn by_pair(
+// The candidates of a face of three or four nodes, whose places are s to e: faces as short stand by their triples, others by their nodes.
+fn seek_short(
     work: &mut [u32],
     at: index::Places,
+    by: index::Places,
     lo: usize,
-    a: u32,
-    b: u32,
-    n: usize,
     s: usize,
     e: usize,
 ) -> usize
-    requires { ⌜ Open at lo n (now work) ⌝ }
-    requires { ⌜ Span at (now work) s e ⌝ }
-    requires { ⌜ (a < at .nodes) × (b < at .nodes) ⌝ }
-    ensures { λ r. ⌜ Added at (each (hits3 at (input at (now (work .entry))) lo a b) (rest s e (base at (now (work .entry))))) n (now (work .entry)) r (now (work .exit)) ⌝ }
+    requires { ⌜ Ready at lo (now work) × Keyed at by (base at (now work)) ⌝ }
+    requires { ⌜ NodesAt at (base at (now work)) lo s e × (s + 3 ≤ e) × (e ≤ s + 4) ⌝ }
+    ensures { λ r. ⌜ Sought at lo (now (work .entry)) (now (work .exit)) r ⌝ }
 {
-    let mut n = n;
-    let mut i = s;
-    while i < e {
-        let c = work[i];
-        n = by_triple(work, at, lo, a, b, c, n);
-        i += 1;
-    }
-    n
+    let found = at.found;
+    let a = seek::set_start(&work[..found], by, lo);
+    let k = seek::set_size(&work[..found], by, lo);
+    let n = walk_keys(work, at, by, lo, 0, a, a + k);
+    walk_rare(work, at, by, lo, n, s, e)
 }
 
-// The node with each two that stand from s to e.
-fn by_node(
-    work: &mut [u32],
-    at: index::Places,
-    lo: usize,
-    a: u32,
-    n: usize,
-    s: usize,
-    e: usize,
-) -> usize
-    requires { ⌜ Open at lo n (now work) ⌝ }
-    requires { ⌜ Span at (now work) s e ⌝ }
-    requires { ⌜ a < at .nodes ⌝ }
-    ensures { λ r. ⌜ Added at (hits2 at (input at (now (work .entry))) lo a (rest s e (base at (now (work .entry))))) n (now (work .entry)) r (now (work .exit)) ⌝ }
-{
-    let mut n = n;
-    let mut i = s;
-    while i < e {
-        let b = work[i];
-        n = by_pair(work, at, lo, a, b, n, i + 1, e);
-        i += 1;
-    }
-    n
-}
-
-// Each three nodes that stand from s to e.
-fn by_all(work: &mut [u32], at: index::Places, lo: usize, n: usize, s: usize, e: usize) -> usize
-    requires { ⌜ Open at lo n (now work) ⌝ }
-    requires { ⌜ Span at (now work) s e ⌝ }
-    ensures { λ r. ⌜ Added at (hits1 at (input at (now (work .entry))) lo (rest s e (base at (now (work .entry))))) n (now (work .entry)) r (now (work .exit)) ⌝ }
-{
-    let mut n = n;
-    let mut i = s;
-    while i < e {
-        let a = work[i];
-        n = by_node(work, at, lo, a, n, i + 1, e);
-        i += 1;
-    }
-    n
-}
-
-// By node triples: each triple of lo's nodes, the faces of the shortest of its three lists that have all three.
-// None where lo's cell is a bow-tie.
-pub fn seek_by_triples(work: &mut [u32], at: index::Places, lo: usize) -> usize
-    requires { ⌜ Ready at lo (now work) ⌝ }
+// By node triples. A face has each triple of its nodes once, and meets every face of it: a triple of a short face has a list of its own,
+// one of a longer face lies in the list of the node that the fewest faces have. None where lo's cell is a bow-tie.
+pub fn seek_by_triples(work: &mut [u32], at: index::Places, by: index::Places, lo: usize) -> usize
+    requires { ⌜ Ready at lo (now work) × Keyed at by (base at (now work)) ⌝ }
     ensures { λ r. ⌜ Sought at lo (now (work .entry)) (now (work .exit)) r ⌝ }
 {
     let found = at.found;
@@ -223,6 +252,12 @@ pub fn seek_by_triples(work: &mut [u32], at: index::Places, lo: usize) -> usize
         return 0;
     }
     let s = seek::set_start(&work[..found], at, lo);
-    let e = s + seek::set_size(&work[..found], at, lo);
-    by_all(work, at, lo, 0, s, e)
+    let k = seek::set_size(&work[..found], at, lo);
+    if k < 3 {
+        return 0;
+    }
+    if k <= 4 {
+        return seek_short(work, at, by, lo, s, s + k);
+    }
+    walk_rare(work, at, at, lo, 0, s, s + k)
 }

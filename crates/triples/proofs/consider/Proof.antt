@@ -11,9 +11,9 @@ use lib.Seq.{sets, length-take-le}
 use lib.Dec.{leb, eqb}
 use Rattle.laws.specs.Lists.{add}
 use Rattle.index.specs.declared.Places.{Places}
-use Rattle.index.specs.Faces.{input}
-use Rattle.seek.proofs.Searching.{input-base}
-use Rattle.triples.specs.Hits.{hit, listed}
+use Rattle.index.specs.Faces.{input, base}
+use Rattle.seek.specs.Candidates.{shares}
+use Rattle.triples.specs.Hits.{listed}
 use Rattle.triples.proofs.Adds.{Faces, sum-few, added-none}
 use Rattle.triples.proofs.consider.Statement.{statement}
 use Rattle.triples.proofs.consider.Tie as tie
@@ -52,8 +52,7 @@ returns c =
     let a = c .before .before .before .before .before .before .before .before .before .args in
     let op = c .before .before .before .before .before .before .before .before .before .pre .0 in
     let w = a .work .now in
-    let t : hit (a .at) (input (a .at) w) (a .lo) (a .a) (a .b) (a .c) (a .g) ≡ true =
-    ap (λ (l : List ℕ). hit (a .at) l (a .lo) (a .a) (a .b) (a .c) (a .g)) (sym (input-base (a .at) w (op .ready .below))) ∙ sym (c .before .before .before .before .before .before .is-hit .ensures) ∙ c .before .before .before .before .before .if1 .taken in
+    let t : shares (a .at) (input (a .at) (base (a .at) w)) (a .lo) (a .g) ≡ true = sym (c .before .before .before .before .before .before .is-hit .ensures) ∙ c .before .before .before .before .before .if1 .taken in
     let e : add leb (c .before .before .before .before .narrow .result) (listed (a .at) (a .n) w) ≡ add leb (a .g) (listed (a .at) (a .n) w) = ap (λ (v : ℕ). add leb v (listed (a .at) (a .n) w)) (c .before .before .before .before .narrow .ensures) in
     rw t (record { number = c .before .before .insert .ensures .0 ∙ ap length e; filled = c .before .before .insert .ensures .1 ∙ ap (sets w (a .at .found)) e })
 
@@ -65,8 +64,7 @@ returns-2 c =
     let a = c .before .before .before .before .args in
     let op = c .before .before .before .before .pre .0 in
     let w = a .work .now in
-    let t : hit (a .at) (input (a .at) w) (a .lo) (a .a) (a .b) (a .c) (a .g) ≡ false =
-    ap (λ (l : List ℕ). hit (a .at) l (a .lo) (a .a) (a .b) (a .c) (a .g)) (sym (input-base (a .at) w (op .ready .below))) ∙ sym (c .before .is-hit .ensures) ∙ c .if1 .left in
+    let t : shares (a .at) (input (a .at) (base (a .at) w)) (a .lo) (a .g) ≡ false = sym (c .before .is-hit .ensures) ∙ c .if1 .left in
     rw t (added-none (a .at) (a .lo) (a .n) w op)
 
 pub consider-spec : {M : Type 1} → statement M

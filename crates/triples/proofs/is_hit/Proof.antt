@@ -1,56 +1,50 @@
 -- `triples::is_hit` meets its contract. One test after the other.
-use mathlib.Core.Bool.{not, and-true, and-false}
-use mathlib.Core.Path.{sym, ap, _∙_}
+use Prim.Native.Nat.{ℕ}
+use mathlib.Core.Bool.{Bool, true, false, not, _&&_, and-true, and-false}
+use mathlib.Core.List.{List}
+use mathlib.Core.Path.{_≡_, refl, sym, ap, _∙_}
 use borrow.Author.Tests.{not-true, not-false}
 use borrow.Author.Needs.{needs}
-use Rattle.index.specs.Faces.{input}
-use Rattle.seek.specs.Steps.{early}
-use Rattle.triples.specs.Hits.{hit}
+use lib.Dec.{leb}
+use lib.ListN.{length}
+use Rattle.laws.specs.Lists.{eql}
+use Rattle.index.specs.declared.Places.{Places}
+use Rattle.index.specs.Faces.{input, nodesOf}
+use Rattle.seek.specs.Candidates.{common, shares}
+use Rattle.seek.specs.Steps.{apart, early}
+use Rattle.seek.proofs.Condition.{shares-early}
 use Rattle.triples.proofs.is_hit.Statement.{statement}
 use Rattle.triples.proofs.is_hit.Tie as tie
+
+-- the three tests
+three : (p : Places) (t : List ℕ) (lo g : ℕ) → shares p t lo g ≡ ((apart p t lo g && not (eql (nodesOf p t lo) (nodesOf p t g))) && leb 3 (length (common (nodesOf p t lo) (nodesOf p t g))))
+unfolding early
+three p t lo g = shares-early p t lo g
 
 is-apart-requires : tie.Need-is-apart-requires
 is-apart-requires c κs = search needs
 
 returns : tie.Need-returns
-unfolding hit early
-returns c = sym (rw (sym (c .before .is-apart .ensures) ∙ not-true (c .before .is-apart .result) (c .if1 .taken)))
+returns c =
+    let a = c .before .before .before .args in
+    sym (three (a .at) (input (a .at) (a .base .now)) (a .lo) (a .g) ∙ rw (sym (c .before .is-apart .ensures) ∙ not-true (c .before .is-apart .result) (c .if1 .taken)))
 
-face-has-requires : tie.Need-face-has-requires
-face-has-requires c κs = search needs
+share-three-requires : tie.Need-share-three-requires
+share-three-requires c κs = search needs
 
 returns-2 : tie.Need-returns-2
-unfolding hit
 returns-2 c =
     let a = c .before .before .before .before .before .args in
-    sym (rw (sym (c .before .face-has .ensures) ∙ not-true (c .before .face-has .result) (c .if2 .taken)) (and-false (early (a .at) (input (a .at) (a .base .now)) (a .lo) (a .g))))
-
-face-has-requires-2 : tie.Need-face-has-requires-2
-face-has-requires-2 c κs = search needs
-
-returns-3 : tie.Need-returns-3
-unfolding hit
-returns-3 c =
-    let a = c .before .before .before .before .before .before .before .args in
-    sym (rw (sym (c .before .before .before .face-has .ensures) ∙ not-false (c .before .before .before .face-has .result) (c .before .before .if2 .left), sym (c .before .face-has2 .ensures) ∙ not-true (c .before .face-has2 .result) (c .if3 .taken)) (and-false (early (a .at) (input (a .at) (a .base .now)) (a .lo) (a .g))))
-
-face-has-requires-3 : tie.Need-face-has-requires-3
-face-has-requires-3 c κs = search needs
-
-returns-4 : tie.Need-returns-4
-unfolding hit
-returns-4 c =
-    let a = c .before .before .before .before .before .before .before .before .before .args in
-    sym (rw (sym (c .before .before .before .before .before .face-has .ensures) ∙ not-false (c .before .before .before .before .before .face-has .result) (c .before .before .before .before .if2 .left), sym (c .before .before .before .face-has2 .ensures) ∙ not-false (c .before .before .before .face-has2 .result) (c .before .before .if3 .left), sym (c .before .face-has3 .ensures) ∙ not-true (c .before .face-has3 .result) (c .if4 .taken)) (and-false (early (a .at) (input (a .at) (a .base .now)) (a .lo) (a .g))))
+    sym (three (a .at) (input (a .at) (a .base .now)) (a .lo) (a .g) ∙ rw (sym (c .before .share-three .ensures) ∙ not-true (c .before .share-three .result) (c .if2 .taken)) (and-false (apart (a .at) (input (a .at) (a .base .now)) (a .lo) (a .g) && not (eql (nodesOf (a .at) (input (a .at) (a .base .now)) (a .lo)) (nodesOf (a .at) (input (a .at) (a .base .now)) (a .g))))))
 
 same-set-requires : tie.Need-same-set-requires
 same-set-requires c κs = search needs
 
-returns-5 : tie.Need-returns-5
-unfolding hit early
-returns-5 c =
+returns-3 : tie.Need-returns-3
+returns-3 c =
+    let a = c .before .before .before .before .before .before .args in
     ap not (c .same-set .ensures)
-    ∙ sym (rw (sym (c .before .before .before .before .before .before .before .before .is-apart .ensures) ∙ not-false (c .before .before .before .before .before .before .before .before .is-apart .result) (c .before .before .before .before .before .before .before .if1 .left), sym (c .before .before .before .before .before .before .face-has .ensures) ∙ not-false (c .before .before .before .before .before .before .face-has .result) (c .before .before .before .before .before .if2 .left), sym (c .before .before .before .before .face-has2 .ensures) ∙ not-false (c .before .before .before .before .face-has2 .result) (c .before .before .before .if3 .left), sym (c .before .before .face-has3 .ensures) ∙ not-false (c .before .before .face-has3 .result) (c .before .if4 .left)) (and-true _))
+    ∙ sym (three (a .at) (input (a .at) (a .base .now)) (a .lo) (a .g) ∙ rw (sym (c .before .before .share-three .ensures) ∙ not-false (c .before .before .share-three .result) (c .before .if2 .left), sym (c .before .before .before .before .is-apart .ensures) ∙ not-false (c .before .before .before .before .is-apart .result) (c .before .before .before .if1 .left)) (and-true (not (eql (nodesOf (a .at) (input (a .at) (a .base .now)) (a .lo)) (nodesOf (a .at) (input (a .at) (a .base .now)) (a .g))))))
 
 pub is-hit-spec : {M : Type 1} → statement M
 is-hit-spec =
@@ -58,11 +52,7 @@ is-hit-spec =
     (tie.spec
     is-apart-requires
     returns
-    face-has-requires
+    share-three-requires
     returns-2
-    face-has-requires-2
-    returns-3
-    face-has-requires-3
-    returns-4
     same-set-requires
-    returns-5)
+    returns-3)

@@ -1,113 +1,131 @@
--- `triples::seek_by_triples` meets its contract. All triples of lo's nodes, and the law that their hits are the candidates (`equal`).
-use Prim.Native.Nat.{ℕ, _+_, _-_, _≤_, _<_}
-use mathlib.Core.List.{List, []}
-use mathlib.Core.Bool.{false≢true}
-use mathlib.Core.Path.{_≡_, sym, ap, ap₂, _∙_}
+-- `triples::seek_by_triples` meets its contract, case by case of the number of lo's nodes.
+use Prim.Native.Nat.{_+_}
+use mathlib.Core.Path.{_≡_, sym, _∙_}
 use native.Mathlib.Omega.{arith}
 use borrow.Author.Needs.{needs}
-use lib.Seq.{sets, length-take-le}
-use lib.ListN.{length, getD}
-use Rattle.laws.specs.Merging.{region}
-use Rattle.index.specs.declared.Places.{Places}
-use Rattle.index.specs.Faces.{input, base, startOf, nodesOf, Indexed}
-use Rattle.merge.specs.Runs.{rest}
-use Rattle.seek.specs.Candidates.{candidates, Ready, Sought}
-use Rattle.seek.proofs.Searching.{input-base, none-sought}
-use Rattle.seek.proofs.Read.{set-fits, set-there, read-node, node-low}
-use Rattle.triples.specs.Hits.{hits1, Open, Added, Span, addAll}
-use Rattle.triples.proofs.Equal.{equal}
+use lib.ListN.{length}
+use lib.Seq.{length-take-le}
+use Rattle.index.specs.Faces.{base}
+use Rattle.seek.proofs.Searching.{none-sought}
+use Rattle.triples.proofs.Found.{none-open, self-beside, nodes-at, nodes-fit, nodes-known, few-sought, rare-sought}
 use Rattle.triples.proofs.seek_by_triples.Statement.{statement}
 use Rattle.triples.proofs.seek_by_triples.Tie as tie
 
--- an empty list
-none-open : (p : Places) (lo : ℕ) (w : List ℕ) → Ready p lo w → Open p lo 0 w
-none-open p lo w r = record { ready = r; few = omega arith; asc = tt; low = λ x e. absurd (false≢true e) }
-
-module _ (p : Places) (lo : ℕ) (w : List ℕ) (r : Ready p lo w) (s n : ℕ) (is-s : s ≡ p .sets + startOf p (input p (base p w)) lo) (is-n : n ≡ length (nodesOf p (input p (base p w)) lo)) where
-  abbrev b : List ℕ
-  b = base p w
-
-  abbrev ix : Indexed p b
-  ix = r .indexed
-
-  -- the nodes of lo lie below `found`
-  within : s + n ≤ p .found
-  within = omega (arith, set-fits p b ix lo (r .face), length-take-le (p .found) w (omega (arith, r .room)))
-
-  -- they are nodes
-  span : Span p w s (s + n)
-  span = record {
-    within = within;
-    known = λ i h k. let j : ℕ = i - s in
-        let i-is : i ≡ p .sets + startOf p (input p b) lo + j = omega arith in
-        let l : j < length (nodesOf p (input p b) lo) = omega arith in
-        let v : getD b i 0 ≡ getD (nodesOf p (input p b) lo) j 0 = ap (λ (x : ℕ). getD b x 0) i-is ∙ read-node p b ix lo j (r .face) l in
-        omega (arith, v, node-low p b ix lo j (r .face) l);
-  }
-
-  -- all of them
-  the-nodes : rest s (s + n) b ≡ nodesOf p (input p w) lo
-  the-nodes =
-      let d : s + n - s ≡ n = omega arith in
-      ap₂ (λ (x k : ℕ). region x k b) is-s (d ∙ is-n) ∙ set-there p b ix lo (r .face) ∙ ap (λ (t : List ℕ). nodesOf p t lo) (input-base p w (r .below))
-
-  -- so what is added are the candidates
-  sought : (m : ℕ) (v : List ℕ) → Added p (hits1 p (input p w) lo (rest s (s + n) b)) 0 w m v → Sought p lo w v m
-  sought m v x =
-      let e : addAll (hits1 p (input p w) lo (rest s (s + n) b)) [] ≡ candidates p (input p w) lo = ap (λ (l : List ℕ). addAll (hits1 p (input p w) lo l) []) the-nodes ∙ equal p (input p w) lo in
-      record { number = x .number ∙ ap length e; filled = x .filled ∙ ap (sets w (p .found)) e }
+-- what is read has `found` words
+long : (b : tie.Start) → length (base (b .args .at) (b .args .work .now)) ≡ b .args .at .found
+long b = length-take-le (b .args .at .found) (b .args .work .now) (omega (arith, b .pre .0 .room))
 
 slice-reshare-prefix-bow-at : tie.Need-slice-reshare-prefix-bow-at
-slice-reshare-prefix-bow-at c = search needs
+slice-reshare-prefix-bow-at c = omega (arith, c .before .pre .0 .room)
 
 slice-aggregate-bow-at : tie.Need-slice-aggregate-bow-at
-slice-aggregate-bow-at c = let a = c .before .before .args in sym (length-take-le (a .at .found) (a .work .now) (omega (arith, c .before .before .pre .room)))
+slice-aggregate-bow-at c = sym (long (c .before .before))
 
 bow-at-requires : tie.Need-bow-at-requires
-bow-at-requires c κs = search needs
+bow-at-requires c κs = let b = c .before .before in (b .pre .0 .indexed, b .pre .0 .face)
 
 same-length : tie.Need-same-length
 same-length c = search needs
 
 returns : tie.Need-returns
-returns c = let a = c .before .before .before .before .args in none-sought (a .at) (a .lo) (a .work .now) (c .before .before .before .before .pre) (sym (c .before .bow-at .ensures) ∙ c .if1 .taken)
+returns c =
+    let b = c .before .before .before .before in
+    none-sought (b .args .at) (b .args .lo) (b .args .work .now) (b .pre .0) (sym (c .before .bow-at .ensures) ∙ c .if1 .taken)
 
 slice-reshare-prefix-set-start : tie.Need-slice-reshare-prefix-set-start
-slice-reshare-prefix-set-start c = search needs
+slice-reshare-prefix-set-start c = omega (arith, c .before .before .before .before .pre .0 .room)
 
 slice-aggregate-set-start : tie.Need-slice-aggregate-set-start
-slice-aggregate-set-start c = let a = c .before .before .before .before .before .args in sym (length-take-le (a .at .found) (a .work .now) (omega (arith, c .before .before .before .before .before .pre .room)))
+slice-aggregate-set-start c = sym (long (c .before .before .before .before .before))
 
 set-start-requires : tie.Need-set-start-requires
-set-start-requires c κs = search needs
+set-start-requires c κs = let b = c .before .before .before .before .before in (b .pre .0 .indexed, b .pre .0 .face)
 
 slice-reshare-prefix-set-size : tie.Need-slice-reshare-prefix-set-size
-slice-reshare-prefix-set-size c = search needs
+slice-reshare-prefix-set-size c = omega (arith, c .before .before .before .before .before .before .pre .0 .room)
 
 slice-aggregate-set-size : tie.Need-slice-aggregate-set-size
-slice-aggregate-set-size c = let a = c .before .before .before .before .before .before .before .args in sym (length-take-le (a .at .found) (a .work .now) (omega (arith, c .before .before .before .before .before .before .before .pre .room)))
+slice-aggregate-set-size c = sym (long (c .before .before .before .before .before .before .before))
 
 set-size-requires : tie.Need-set-size-requires
-set-size-requires c κs = search needs
-
-add-e : tie.Need-add-e
-add-e c =
-    let a = c .before .before .before .before .before .before .before .before .args in
-    omega (arith, within (a .at) (a .lo) (a .work .now) (c .before .before .before .before .before .before .before .before .pre) (c .before .before .set-start .result) (c .set-size .result) (c .before .before .set-start .ensures) (c .set-size .ensures), c .before .before .before .before .before .before .before .before .pre .room, c .before .before .before .before .before .before .before .before .good .0)
-
-by-all-requires : tie.Need-by-all-requires
-by-all-requires c κs =
-    let a = c .before .before .before .before .before .before .before .before .before .args in
-    let r = c .before .before .before .before .before .before .before .before .before .pre in
-    (none-open (a .at) (a .lo) (a .work .now) r, span (a .at) (a .lo) (a .work .now) r (c .before .before .before .set-start .result) (c .before .set-size .result) (c .before .before .before .set-start .ensures) (c .before .set-size .ensures))
+set-size-requires c κs = let b = c .before .before .before .before .before .before .before in (b .pre .0 .indexed, b .pre .0 .face)
 
 same-length-2 : tie.Need-same-length-2
 same-length-2 c = search needs
 
 returns-2 : tie.Need-returns-2
 returns-2 c =
-    let a = c .before .before .before .before .before .before .before .before .before .before .before .before .args in
-    sought (a .at) (a .lo) (a .work .now) (c .before .before .before .before .before .before .before .before .before .before .before .before .pre) (c .before .before .before .before .before .before .set-start .result) (c .before .before .before .before .set-size .result) (c .before .before .before .before .before .before .set-start .ensures) (c .before .before .before .before .set-size .ensures) (c .before .before .by-all .result) (c .before .before .by-all .last .0) (c .before .before .by-all .ensures)
+    let b = c .before .before .before .before .before .before .before .before .before in
+    few-sought (b .args .at) (b .args .lo) (b .args .work .now) (b .pre .0) (omega (arith, c .if2 .taken, c .before .set-size .ensures))
+
+add-seek-short : tie.Need-add-seek-short
+add-seek-short c =
+    let b = c .before .before .before .before .before .before .before .before .before .before .before in
+    let a = b .args in
+    let w = a .work .now in
+    let x = c .before .before .before .before .before .set-start in
+    let n = c .before .before .before .set-size in
+    let r = b .pre .0 in
+    let at = nodes-at (a .at) (base (a .at) w) (a .lo) (x .result) (n .result) (x .ensures) (n .ensures) in
+    omega (arith, nodes-fit (a .at) (base (a .at) w) (r .indexed) (a .lo) (x .result) (x .result + n .result) (r .face) at, long b, r .room, b .good .0)
+
+seek-short-requires : tie.Need-seek-short-requires
+seek-short-requires c κs =
+    let b = c .before .before .before .before .before .before .before .before .before .before .before in
+    let a = b .args in
+    let w = a .work .now in
+    let x = c .before .before .before .before .before .set-start in
+    let n = c .before .before .before .set-size in
+    let r = b .pre .0 in
+    let at = nodes-at (a .at) (base (a .at) w) (a .lo) (x .result) (n .result) (x .ensures) (n .ensures) in
+    (b .pre, (at, omega (arith, c .before .before .if2 .left), omega (arith, c .before .if3 .taken)))
+
+same-length-3 : tie.Need-same-length-3
+same-length-3 c = search needs
+
+returns-3 : tie.Need-returns-3
+returns-3 c = c .before .before .seek-short .ensures
+
+add-walk-rare : tie.Need-add-walk-rare
+add-walk-rare c =
+    let b = c .before .before .before .before .before .before .before .before .before .before .before in
+    let a = b .args in
+    let w = a .work .now in
+    let x = c .before .before .before .before .before .set-start in
+    let n = c .before .before .before .set-size in
+    let r = b .pre .0 in
+    let at = nodes-at (a .at) (base (a .at) w) (a .lo) (x .result) (n .result) (x .ensures) (n .ensures) in
+    omega (arith, nodes-fit (a .at) (base (a .at) w) (r .indexed) (a .lo) (x .result) (x .result + n .result) (r .face) at, long b, r .room, b .good .0)
+
+walk-rare-requires : tie.Need-walk-rare-requires
+walk-rare-requires c κs =
+    let b = c .before .before .before .before .before .before .before .before .before .before .before in
+    let a = b .args in
+    let w = a .work .now in
+    let x = c .before .before .before .before .before .set-start in
+    let n = c .before .before .before .set-size in
+    let r = b .pre .0 in
+    let at = nodes-at (a .at) (base (a .at) w) (a .lo) (x .result) (n .result) (x .ensures) (n .ensures) in
+    (none-open (a .at) (a .lo) w r,
+    (self-beside (a .at) (base (a .at) w) (r .indexed),
+    omega (arith, c .before .before .if2 .left),
+    omega (arith, nodes-fit (a .at) (base (a .at) w) (r .indexed) (a .lo) (x .result) (x .result + n .result) (r .face) at, long b),
+    nodes-known (a .at) (base (a .at) w) (r .indexed) (a .lo) (x .result) (x .result + n .result) (r .face) at))
+
+same-length-4 : tie.Need-same-length-4
+same-length-4 c = search needs
+
+returns-4 : tie.Need-returns-4
+returns-4 c =
+    let b = c .before .before .before .before .before .before .before .before .before .before .before .before .before .before in
+    let a = b .args in
+    let w = a .work .now in
+    let x = c .before .before .before .before .before .before .before .before .set-start in
+    let n = c .before .before .before .before .before .before .set-size in
+    let r = b .pre .0 in
+    let at = nodes-at (a .at) (base (a .at) w) (a .lo) (x .result) (n .result) (x .ensures) (n .ensures) in
+    let f = c .before .before .walk-rare in
+    rare-sought (a .at) (a .lo) (x .result) (x .result + n .result) w r (f .result) (f .last .0) at (f .ensures)
 
 pub seek-by-triples-spec : {M : Type 1} → statement M
 seek-by-triples-spec =
@@ -124,7 +142,13 @@ seek-by-triples-spec =
     slice-reshare-prefix-set-size
     slice-aggregate-set-size
     set-size-requires
-    add-e
-    by-all-requires
     same-length-2
-    returns-2)
+    returns-2
+    add-seek-short
+    seek-short-requires
+    same-length-3
+    returns-3
+    add-walk-rare
+    walk-rare-requires
+    same-length-4
+    returns-4)
