@@ -1,93 +1,83 @@
--- The list of a node of face g holds all faces with g's key.
+-- The list of a key of face g in the second index holds all faces with g's sorted ring.
 use Prim.Native.Nat.{ℕ, suc, _+_, _-_, _≤_, _<_}
 use mathlib.Core.Path.{_≡_, refl, sym, ap, ap₂, _∙_, subst}
 use mathlib.Core.Bool.{true}
 use mathlib.Core.List.{List}
 use native.Mathlib.Omega.{arith}
-use lib.ListN.{length, getD, length-take}
+use lib.ListN.{length, getD}
 use lib.Seq.{getD-take}
 use Rattle.laws.specs.Lists.{keep, elem}
-use Rattle.laws.specs.Merging.{region}
 use Rattle.laws.proofs.Stores.{region-take}
-use Rattle.counting.specs.Counts.{times, below}
 use Rattle.counting.proofs.CountLaws.{below-suc}
-use Rattle.index.specs.Faces.{input, base, nodesOf, wordsOf, facesWith}
+use Rattle.index.specs.declared.Places.{Places}
+use Rattle.index.specs.Faces.{input, base, nodesOf, wordsOf}
 use Rattle.merge.specs.Runs.{rest}
-use Rattle.seek.specs.Candidates.{Ready}
 use Rattle.seek.proofs.Read.{below-words}
 use Rattle.seek.proofs.Searching.{input-base}
-use Rattle.triples.proofs.OneList.{within, all-faces}
+use Rattle.triple_keys.specs.Keys.{Keyed}
+use Rattle.triples.specs.Hits.{Beside}
+use Rattle.triples.proofs.OneList.{slot-low, within, all-faces, the-list, x-is, e-is}
+use Rattle.triples.proofs.Found.{keyed-beside}
 use Rattle.layout.specs.declared.Layout.{Layout}
-use Rattle.layout.specs.Tables.{Standing}
+use Rattle.layout.specs.Tables.{Faced, Standing}
 use Rattle.overfull.specs.Alike.{sameAs, alike, Listed}
-use Rattle.overfull.proofs.Members.{in-list, some-node}
+use Rattle.overfull.proofs.Members.{in-list, has-keys}
 use Rattle.overfull.proofs.Nodes.{member-low}
 
-module _ (l : Layout) (w : List ℕ) (s : Standing l w) (g : ℕ) (h : g < l .at .faces) where
-  -- a slice that stands can be searched
-  pub ready : Ready (l .at) g w
-  ready = record {
-    indexed = s .indexed;
-    below = s .below;
-    face = h;
-    room = omega (arith, s .spaced .marks-at, s .spaced .others-at, s .spaced .last-at, s .spaced .pairs-at, s .spaced .spare-at, s .spaced .ends);
-  }
+module _ (l : Layout) (q : Places) (w : List ℕ) (s : Standing l w) (kd : Keyed (l .at) q (base (l .at) w)) (g : ℕ) (h : g < l .at .faces) where
+  abbrev b : List ℕ
+  b = base (l .at) w
 
-  -- face g has nodes there
-  pub has-node : 0 < length (nodesOf (l .at) (input (l .at) (base (l .at) w)) g)
-  has-node = rw (input-base (l .at) w (s .below)) (some-node l (input (l .at) w) (s .faced) g h)
+  -- `found` lies within the slice
+  pub room : l .at .found ≤ length w
+  room = omega (arith, s .spaced .marks-at, s .spaced .others-at, s .spaced .last-at, s .spaced .pairs-at, s .spaced .spare-at, s .spaced .ends)
 
-  module _ (v : ℕ) (e : elem v (nodesOf (l .at) (input (l .at) (base (l .at) w)) g) ≡ true) where
-    -- v is a node
-    low : v < l .at .nodes
-    low = member-low (l .at) (base (l .at) w) (s .indexed) g h v e
+  -- g is a face of the second index
+  pub face : g < q .faces
+  face = omega (arith, h, kd .faces)
 
-    -- the words of all node sets
-    abbrev S : List ℕ
-    S = wordsOf (l .at) (input (l .at) (base (l .at) w))
+  -- what is read of the tables
+  faced : Faced l (input (l .at) b)
+  faced = subst (Faced l) (sym (input-base (l .at) w (s .below))) (s .faced)
+
+  -- face g has keys there
+  pub has-key : 0 < length (nodesOf q (input q b) g)
+  has-key = has-keys l (input (l .at) b) faced g h q (input q b) (kd .faces) (kd .keys)
+
+  module _ (v : ℕ) (e : elem v (nodesOf q (input q b) g) ≡ true) where
+    -- v is a key
+    low : v < q .nodes
+    low = member-low q b (kd .indexed) g face v e
+
+    -- the second index
+    bs : Beside (l .at) q b
+    bs = keyed-beside (l .at) q b kd
 
     -- its offset and the next lie within the slice
-    pub slot-in : l .at .offsets + v + 1 < length w
-    slot-in =
-        let o = within (l .at) g w ready v low (l .at .index + getD w (l .at .offsets + v) 0) (l .at .index + getD w (l .at .offsets + v + 1) 0) refl refl in
-        omega (arith, low, s .indexed .index-at, o, ready .room)
+    pub slot-in : (q .offsets + v + 1 < length w) × (q .index ≤ length w)
+    slot-in = omega (arith, slot-low (l .at) q w room bs v low, room)
 
-    -- an offset, read
-    read : (k : ℕ) → k < l .at .nodes + 2 → getD w (l .at .offsets + k) 0 ≡ below k S
-    read k b =
-        sym (getD-take (l .at .found) w (l .at .offsets + k) 0 (omega (arith, b, s .indexed .index-at, s .indexed .whole, length-take (l .at .found) w)))
-        ∙ s .indexed .offset k b
-
-    module _ (x y : ℕ) (is-x : x ≡ l .at .index + getD w (l .at .offsets + v) 0) (is-y : y ≡ l .at .index + getD w (l .at .offsets + v + 1) 0) where
-      -- where the list starts
-      x-is : x ≡ l .at .index + below v S
-      x-is = is-x ∙ ap (λ (j : ℕ). l .at .index + j) (read v (omega (arith, low)))
-
-      -- and ends
-      y-is : y ≡ l .at .index + (below v S + times v S)
-      y-is =
-          let j : l .at .offsets + v + 1 ≡ l .at .offsets + suc v = omega arith in
-          is-y ∙ ap (λ (k : ℕ). l .at .index + getD w k 0) j ∙ ap (λ (k : ℕ). l .at .index + k) (read (suc v) (omega (arith, low)) ∙ below-suc v S)
-
+    module _ (x y : ℕ) (is-x : x ≡ q .index + getD w (q .offsets + v) 0) (is-y : y ≡ q .index + getD w (q .offsets + v + 1) 0) where
       -- within the slice
       pub ends-in : (x ≤ y) × (y ≤ l .at .found) × (l .at .found ≤ length w)
-      ends-in = let o = within (l .at) g w ready v low x y is-x is-y in (o .0, o .1, omega (arith, ready .room))
+      ends-in = let o = within (l .at) q w room bs v low x y is-x is-y in (o .0, o .1, room)
 
       -- its words are faces
       pub listed : Listed l w g x y
-      listed = record {
-        face = h;
-        order = ends-in .0;
-        within = omega (arith, ends-in);
-        few = omega (arith, x-is, y-is, below-suc v S, below-words (l .at) (base (l .at) w) (s .indexed) (suc v), s .indexed .small .0);
-        faces = λ i a b. subst (λ (n : ℕ). n < l .at .faces) (getD-take (l .at .found) w i 0 (omega (arith, b, ends-in))) (all-faces (l .at) g w ready v low x y is-x is-y i a b);
-      }
+      listed =
+          let S = wordsOf q (input q b) in
+          record {
+            face = h;
+            order = ends-in .0;
+            within = omega (arith, ends-in);
+            few = omega (arith, x-is (l .at) q w room bs v low x y is-x is-y, e-is (l .at) q w room bs v low x y is-x is-y, below-suc v S, below-words q b (kd .indexed) (suc v), kd .indexed .small .0);
+            faces = λ i a c. subst (λ (n : ℕ). n < l .at .faces) (getD-take (l .at .found) w i 0 (omega (arith, c, ends-in))) (all-faces (l .at) q w room bs v low x y is-x is-y i a c);
+          }
 
-      -- and all that have g's key are among them
+      -- and all that have g's sorted ring are among them
       pub all-alike : keep (sameAs l (input (l .at) w) g) (rest x y w) ≡ alike l (input (l .at) w) g
       all-alike =
-          let d : y - x ≡ times v S = omega (arith, x-is, y-is) in
-          let part : rest x y (base (l .at) w) ≡ facesWith (l .at) (input (l .at) (base (l .at) w)) v = ap₂ (λ (i k : ℕ). region i k (base (l .at) w)) x-is d ∙ s .indexed .part v low in
           let same = input-base (l .at) w (s .below) in
-          ap (keep (sameAs l (input (l .at) w) g)) (sym (region-take x (y - x) (l .at .found) w (omega (arith, ends-in))) ∙ part ∙ ap (λ (u : List ℕ). facesWith (l .at) u v) same)
-          ∙ in-list l (input (l .at) w) (s .faced) g h v (subst (λ (u : List ℕ). elem v (nodesOf (l .at) u g) ≡ true) same e)
+          ap₂ (λ (t r : List ℕ). keep (sameAs l t g) r) (sym same) (sym (region-take x (y - x) (l .at .found) w (omega (arith, ends-in))) ∙ the-list (l .at) q w room bs v low x y is-x is-y)
+          ∙ in-list l (input (l .at) b) faced g h q (input q b) (kd .faces) (kd .keys) v e
+          ∙ ap (λ (t : List ℕ). alike l t g) same

@@ -6,8 +6,9 @@ ghost use lib.ListN.{length};
 ghost use Rattle.laws.specs.Lists.{keep, elem};
 ghost use Rattle.geometry.specs.Points.{pointsOf, centreOf};
 ghost use Rattle.geometry.specs.Coordinates.{nodeCount};
-ghost use Rattle.index.specs.Faces.{input, nodesOf, Indexed};
+ghost use Rattle.index.specs.Faces.{input, base, nodesOf, Indexed};
 ghost use Rattle.merge.specs.Runs.{rest};
+ghost use Rattle.triple_keys.specs.Keys.{Keyed};
 ghost use Rattle.layout.specs.Tables.{keyRow, Faced, Standing};
 ghost use Rattle.layout.specs.ByCell.{overFace, overCell};
 ghost use Rattle.overfull.specs.Alike.{sameAs, alike, start, noted, tallied, Listed, FaceOf};
@@ -33,7 +34,7 @@ fn same_key(work: &[u32], l: layout::Layout, g: usize, h: usize) -> bool
     ascending::equal(work, k + a, b - a, k + c, d - c)
 }
 
-// Of the nodes of face g, one that the fewest faces have.
+// Of the keys of face g in an index, one that the fewest faces have.
 fn rarest(base: &[u32], at: index::Places, g: usize) -> usize
     requires { ⌜ Indexed at (now base) ⌝ }
     requires { ⌜ (g < at .faces) × (0 < length (nodesOf at (input at (now base)) g)) ⌝ }
@@ -105,18 +106,18 @@ fn walk(work: &[u32], l: layout::Layout, g: usize, x: usize, e: usize) -> Tally
     s
 }
 
-// The faces with g's key, counted; none where one comes before g. They are sought in the shortest list of g's nodes.
-fn count_alike(work: &[u32], l: layout::Layout, g: usize) -> Tally
+// The faces with g's sorted ring, counted; none where one comes before g. They are sought in the shortest list of g's keys.
+fn count_alike(work: &[u32], l: layout::Layout, by: index::Places, g: usize) -> Tally
     requires { ⌜ Standing l (now work) ⌝ }
-    requires { ⌜ g < l .at .faces ⌝ }
+    requires { ⌜ (g < l .at .faces) × Keyed (l .at) by (base (l .at) (now work)) ⌝ }
     ensures { λ r. ⌜ r ≡ tallied g (alike l (input (l .at) (now (work .entry))) g) (start g) ⌝ }
 {
     let at = l.at;
     let found = at.found;
-    let v = rarest(&work[..found], at, g);
-    let slot = at.offsets + v;
-    let x = at.index + counting::wide(work[slot]);
-    let e = at.index + counting::wide(work[slot + 1]);
+    let v = rarest(&work[..found], by, g);
+    let slot = by.offsets + v;
+    let x = by.index + counting::wide(work[slot]);
+    let e = by.index + counting::wide(work[slot + 1]);
     walk(work, l, g, x, e)
 }
 
@@ -137,6 +138,7 @@ fn keep_face(
     coords: &[f64],
     work: &[u32],
     l: layout::Layout,
+    by: index::Places,
     c: usize,
     g: usize,
     findings: &mut [u8],
@@ -144,12 +146,12 @@ fn keep_face(
     n: usize,
 ) -> usize
     requires { ⌜ Standing l (now work) ⌝ }
-    requires { ⌜ FaceOf l (input (l .at) (now work)) c g × (l .at .nodes ≡ nodeCount (now coords)) ⌝ }
+    requires { ⌜ FaceOf l (input (l .at) (now work)) c g × (l .at .nodes ≡ nodeCount (now coords)) × Keyed (l .at) by (base (l .at) (now work)) ⌝ }
     requires { ⌜ (64 * room ≤ length (now findings)) × (n + 1 ≤ 2 ^ 57) ⌝ }
     ensures { λ r. ⌜ KeptAny (now (coords .entry)) room n (overFace l (input (l .at) (now (work .entry))) g) (now (findings .entry)) (now (findings .exit)) r ⌝ }
     ensures { λ r. ⌜ r ≤ n + 1 ⌝ }
 {
-    let s = count_alike(work, l, g);
+    let s = count_alike(work, l, by, g);
     if s.count < 3 {
         return n;
     }
@@ -170,13 +172,14 @@ pub fn keep_overfull(
     coords: &[f64],
     work: &[u32],
     l: layout::Layout,
+    by: index::Places,
     c: usize,
     findings: &mut [u8],
     room: usize,
     n: usize,
 ) -> usize
     requires { ⌜ Standing l (now work) ⌝ }
-    requires { ⌜ (c < l .at .«cell_count») × (l .at .nodes ≡ nodeCount (now coords)) ⌝ }
+    requires { ⌜ (c < l .at .«cell_count») × (l .at .nodes ≡ nodeCount (now coords)) × Keyed (l .at) by (base (l .at) (now work)) ⌝ }
     requires { ⌜ (64 * room ≤ length (now findings)) × (n ≤ 2 ^ 56) ⌝ }
     ensures { λ r. ⌜ KeptAny (now (coords .entry)) room n (overCell l (input (l .at) (now (work .entry))) c) (now (findings .entry)) (now (findings .exit)) r ⌝ }
     ensures { λ r. ⌜ r ≤ n + 2 ^ 18 ⌝ }
@@ -185,7 +188,7 @@ pub fn keep_overfull(
     let mut n = n;
     let mut g = layout::first_face(work, l, c);
     while g < e {
-        n = keep_face(coords, work, l, c, g, findings, room, n);
+        n = keep_face(coords, work, l, by, c, g, findings, room, n);
         g += 1;
     }
     n

@@ -48,11 +48,11 @@ module _ (p q : Places) (w : List ℕ) (room : p .found ≤ length w) (s : Besid
   read k h = sym (getD-take (p .found) w (q .offsets + k) 0 (omega (arith, long, s .indexed .index-at, s .indexed .whole))) ∙ s .indexed .offset k h
 
   -- where the list starts
-  x-is : x ≡ q .index + below m S
+  pub x-is : x ≡ q .index + below m S
   x-is = is-x ∙ ap (λ (j : ℕ). q .index + j) (read m (omega arith))
 
   -- and ends
-  e-is : e ≡ q .index + (below m S + times m S)
+  pub e-is : e ≡ q .index + (below m S + times m S)
   e-is =
       let j : q .offsets + m + 1 ≡ q .offsets + suc m = omega arith in
       is-e ∙ ap (λ (k : ℕ). q .index + getD w k 0) j ∙ ap (λ (k : ℕ). q .index + k) (read (suc m) (omega arith) ∙ below-suc m S)
@@ -62,7 +62,7 @@ module _ (p q : Places) (w : List ℕ) (room : p .found ≤ length w) (s : Besid
   within = omega (arith, x-is, e-is, below-suc m S, below-words q B (s .indexed) (suc m), s .indexed .whole, long)
 
   -- it is the list of m
-  the-list : rest x e B ≡ facesWith q t m
+  pub the-list : rest x e B ≡ facesWith q t m
   the-list =
       let d : e - x ≡ times m S = omega (arith, x-is, e-is) in
       ap₂ (λ (i k : ℕ). region i k B) x-is d ∙ s .indexed .part m low

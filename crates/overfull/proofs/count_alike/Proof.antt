@@ -6,7 +6,7 @@ use native.Mathlib.Omega.{arith}
 use lib.ListN.{getD}
 use lib.Seq.{length-take-le}
 use Rattle.overfull.specs.Alike.{start, tallied}
-use Rattle.overfull.proofs.Listing.{ready, has-node, slot-in, ends-in, listed, all-alike}
+use Rattle.overfull.proofs.Listing.{room, face, has-key, slot-in, ends-in, listed, all-alike}
 use borrow.Author.Needs.{needs}
 use Rattle.overfull.proofs.count_alike.Statement.{statement}
 use Rattle.overfull.proofs.count_alike.Tie as tie
@@ -15,31 +15,31 @@ slice-aggregate-rarest : tie.Need-slice-aggregate-rarest
 slice-aggregate-rarest c =
     let b = c .before .before .before in
     let a = b .args in
-    sym (length-take-le (a .l .at .found) (a .work .now) (omega (arith, ready (a .l) (a .work .now) (b .pre .0) (a .g) (b .pre .1) .room)))
+    sym (length-take-le (a .l .at .found) (a .work .now) (omega (arith, room (a .l) (a .by) (a .work .now) (b .pre .0) (b .pre .1 .1) (a .g) (b .pre .1 .0))))
 
 rarest-requires : tie.Need-rarest-requires
 rarest-requires c κs =
     let b = c .before .before .before in
     let a = b .args in
-    (b .pre .0 .indexed, (b .pre .1, has-node (a .l) (a .work .now) (b .pre .0) (a .g) (b .pre .1)))
+    (b .pre .1 .1 .indexed, (face (a .l) (a .by) (a .work .now) (b .pre .0) (b .pre .1 .1) (a .g) (b .pre .1 .0), has-key (a .l) (a .by) (a .work .now) (b .pre .0) (b .pre .1 .1) (a .g) (b .pre .1 .0)))
 
 add-slot : tie.Need-add-slot
 add-slot c =
     let b = c .before .before .before .before .before in
     let a = b .args in
-    omega (arith, b .good .0, slot-in (a .l) (a .work .now) (b .pre .0) (a .g) (b .pre .1) (c .before .rarest .result) (c .before .rarest .ensures))
+    omega (arith, b .good .0, slot-in (a .l) (a .by) (a .work .now) (b .pre .0) (b .pre .1 .1) (a .g) (b .pre .1 .0) (c .before .rarest .result) (c .before .rarest .ensures))
 
 mul-wide : tie.Need-mul-wide
 mul-wide c =
     let b = c .before .before .before .before .before in
     let a = b .args in
-    omega (arith, b .good .0, slot-in (a .l) (a .work .now) (b .pre .0) (a .g) (b .pre .1) (c .before .rarest .result) (c .before .rarest .ensures))
+    omega (arith, b .good .0, slot-in (a .l) (a .by) (a .work .now) (b .pre .0) (b .pre .1 .1) (a .g) (b .pre .1 .0) (c .before .rarest .result) (c .before .rarest .ensures))
 
 shared-slice-read-wide : tie.Need-shared-slice-read-wide
 shared-slice-read-wide c =
     let b = c .before .before .before .before .before .before in
     let a = b .args in
-    omega (arith, slot-in (a .l) (a .work .now) (b .pre .0) (a .g) (b .pre .1) (c .before .before .rarest .result) (c .before .before .rarest .ensures))
+    omega (arith, slot-in (a .l) (a .by) (a .work .now) (b .pre .0) (b .pre .1 .1) (a .g) (b .pre .1 .0) (c .before .before .rarest .result) (c .before .before .rarest .ensures))
 
 wide-requires : tie.Need-wide-requires
 wide-requires c κs = search needs
@@ -48,25 +48,25 @@ add-x : tie.Need-add-x
 add-x c =
     let b = c .before .before .before .before .before .before .before .before in
     let a = b .args in
-    omega (arith, b .good .0, c .before .wide .ensures, ends-in (a .l) (a .work .now) (b .pre .0) (a .g) (b .pre .1) (c .before .before .before .before .rarest .result) (c .before .before .before .before .rarest .ensures) (a .l .at .index + getD (a .work .now) (a .l .at .offsets + c .before .before .before .before .rarest .result) 0) (a .l .at .index + getD (a .work .now) (a .l .at .offsets + c .before .before .before .before .rarest .result + 1) 0) refl refl)
+    omega (arith, b .good .0, c .before .wide .ensures, ends-in (a .l) (a .by) (a .work .now) (b .pre .0) (b .pre .1 .1) (a .g) (b .pre .1 .0) (c .before .before .before .before .rarest .result) (c .before .before .before .before .rarest .ensures) (a .by .index + getD (a .work .now) (a .by .offsets + c .before .before .before .before .rarest .result) 0) (a .by .index + getD (a .work .now) (a .by .offsets + c .before .before .before .before .rarest .result + 1) 0) refl refl)
 
 add-wide : tie.Need-add-wide
 add-wide c =
     let b = c .before .before .before .before .before .before .before .before in
     let a = b .args in
-    omega (arith, b .good .0, slot-in (a .l) (a .work .now) (b .pre .0) (a .g) (b .pre .1) (c .before .before .before .before .rarest .result) (c .before .before .before .before .rarest .ensures))
+    omega (arith, b .good .0, slot-in (a .l) (a .by) (a .work .now) (b .pre .0) (b .pre .1 .1) (a .g) (b .pre .1 .0) (c .before .before .before .before .rarest .result) (c .before .before .before .before .rarest .ensures))
 
 mul-wide-2 : tie.Need-mul-wide-2
 mul-wide-2 c =
     let b = c .before .before .before .before .before .before .before .before in
     let a = b .args in
-    omega (arith, b .good .0, slot-in (a .l) (a .work .now) (b .pre .0) (a .g) (b .pre .1) (c .before .before .before .before .rarest .result) (c .before .before .before .before .rarest .ensures))
+    omega (arith, b .good .0, slot-in (a .l) (a .by) (a .work .now) (b .pre .0) (b .pre .1 .1) (a .g) (b .pre .1 .0) (c .before .before .before .before .rarest .result) (c .before .before .before .before .rarest .ensures))
 
 shared-slice-read-wide-2 : tie.Need-shared-slice-read-wide-2
 shared-slice-read-wide-2 c =
     let b = c .before .before .before .before .before .before .before .before .before in
     let a = b .args in
-    omega (arith, slot-in (a .l) (a .work .now) (b .pre .0) (a .g) (b .pre .1) (c .before .before .before .before .before .rarest .result) (c .before .before .before .before .before .rarest .ensures))
+    omega (arith, slot-in (a .l) (a .by) (a .work .now) (b .pre .0) (b .pre .1 .1) (a .g) (b .pre .1 .0) (c .before .before .before .before .before .rarest .result) (c .before .before .before .before .before .rarest .ensures))
 
 wide-requires-2 : tie.Need-wide-requires-2
 wide-requires-2 c κs = search needs
@@ -75,19 +75,19 @@ add-e : tie.Need-add-e
 add-e c =
     let b = c .before .before .before .before .before .before .before .before .before .before .before in
     let a = b .args in
-    omega (arith, b .good .0, c .before .wide2 .ensures, ends-in (a .l) (a .work .now) (b .pre .0) (a .g) (b .pre .1) (c .before .before .before .before .before .before .before .rarest .result) (c .before .before .before .before .before .before .before .rarest .ensures) (a .l .at .index + getD (a .work .now) (a .l .at .offsets + c .before .before .before .before .before .before .before .rarest .result) 0) (a .l .at .index + getD (a .work .now) (a .l .at .offsets + c .before .before .before .before .before .before .before .rarest .result + 1) 0) refl refl)
+    omega (arith, b .good .0, c .before .wide2 .ensures, ends-in (a .l) (a .by) (a .work .now) (b .pre .0) (b .pre .1 .1) (a .g) (b .pre .1 .0) (c .before .before .before .before .before .before .before .rarest .result) (c .before .before .before .before .before .before .before .rarest .ensures) (a .by .index + getD (a .work .now) (a .by .offsets + c .before .before .before .before .before .before .before .rarest .result) 0) (a .by .index + getD (a .work .now) (a .by .offsets + c .before .before .before .before .before .before .before .rarest .result + 1) 0) refl refl)
 
 walk-requires : tie.Need-walk-requires
 walk-requires c κs =
     let b = c .before .before .before .before .before .before .before .before .before .before .before in
     let a = b .args in
-    (b .pre .0 .faced, listed (a .l) (a .work .now) (b .pre .0) (a .g) (b .pre .1) (c .before .before .before .before .before .before .before .rarest .result) (c .before .before .before .before .before .before .before .rarest .ensures) (a .l .at .index + c .before .before .before .before .wide .result) (a .l .at .index + c .before .wide2 .result) (ap (λ (k : ℕ). a .l .at .index + k) (c .before .before .before .before .wide .ensures)) (ap (λ (k : ℕ). a .l .at .index + k) (c .before .wide2 .ensures)))
+    (b .pre .0 .faced, listed (a .l) (a .by) (a .work .now) (b .pre .0) (b .pre .1 .1) (a .g) (b .pre .1 .0) (c .before .before .before .before .before .before .before .rarest .result) (c .before .before .before .before .before .before .before .rarest .ensures) (a .by .index + c .before .before .before .before .wide .result) (a .by .index + c .before .wide2 .result) (ap (λ (k : ℕ). a .by .index + k) (c .before .before .before .before .wide .ensures)) (ap (λ (k : ℕ). a .by .index + k) (c .before .wide2 .ensures)))
 
 returns : tie.Need-returns
 returns c =
     let b = c .before .before .before .before .before .before .before .before .before .before .before .before in
     let a = b .args in
-    c .walk .ensures ∙ ap (λ (r : List ℕ). tallied (a .g) r (start (a .g))) (all-alike (a .l) (a .work .now) (b .pre .0) (a .g) (b .pre .1) (c .before .before .before .before .before .before .before .before .rarest .result) (c .before .before .before .before .before .before .before .before .rarest .ensures) (a .l .at .index + c .before .before .before .before .before .wide .result) (a .l .at .index + c .before .before .wide2 .result) (ap (λ (k : ℕ). a .l .at .index + k) (c .before .before .before .before .before .wide .ensures)) (ap (λ (k : ℕ). a .l .at .index + k) (c .before .before .wide2 .ensures)))
+    c .walk .ensures ∙ ap (λ (r : List ℕ). tallied (a .g) r (start (a .g))) (all-alike (a .l) (a .by) (a .work .now) (b .pre .0) (b .pre .1 .1) (a .g) (b .pre .1 .0) (c .before .before .before .before .before .before .before .before .rarest .result) (c .before .before .before .before .before .before .before .before .rarest .ensures) (a .by .index + c .before .before .before .before .before .wide .result) (a .by .index + c .before .before .wide2 .result) (ap (λ (k : ℕ). a .by .index + k) (c .before .before .before .before .before .wide .ensures)) (ap (λ (k : ℕ). a .by .index + k) (c .before .before .wide2 .ensures)))
 
 pub count-alike-spec : {M : Type 1} → statement M
 count-alike-spec =

@@ -13,7 +13,7 @@ count-alike-requires : tie.Need-count-alike-requires
 count-alike-requires c κs =
     let b = c .before .before .before in
     let a = b .args in
-    (b .pre .0, face-in (a .l) (a .work .now) (b .pre .0 .faced) (a .c) (a .g) (b .pre .1 .0 .0))
+    (b .pre .0, (face-in (a .l) (a .work .now) (b .pre .0 .faced) (a .c) (a .g) (b .pre .1 .0 .0), b .pre .1 .0 .2))
 
 returns : tie.Need-returns
 returns c =

@@ -14,12 +14,12 @@ use Rattle.overfull.proofs.keep_overfull.Statement.{statement}
 use Rattle.overfull.proofs.keep_overfull.Tie as tie
 
 abbrev Inv-loop : tie.InvT-loop
-Inv-loop coords work l c findings₀ room n e n₀ g₀ findings n' g =
+Inv-loop coords work l by c findings₀ room n e n₀ g₀ findings n' g =
     (g₀ ≤ g) × (g ≤ e) × (n' ≤ n + (g - g₀)) × (length findings ≡ length findings₀)
     × KeptAny coords room n (each (overFace l (input (l .at) work)) (upFrom g₀ (g - g₀))) findings₀ findings n'
 
 abbrev μ-loop : tie.MeasureT-loop
-μ-loop coords work l c findings₀ room n e n₀ g₀ findings n' g = e - g
+μ-loop coords work l by c findings₀ room n e n₀ g₀ findings n' g = e - g
 
 add-first-face : tie.Need-add-first-face Inv-loop μ-loop
 add-first-face c =
@@ -61,7 +61,7 @@ keep-face-requires c κs =
     let t = c .before .loop-test .taken in (
       b .pre .0,
       (
-        (record { cell = b .pre .1 .0 .0; from = omega (arith, o .inv .0, c .before .before .before .first-face2 .ensures .0); before = omega (arith, t, c .before .before .before .before .first-face .ensures .0) }, b .pre .1 .0 .1),
+        (record { cell = b .pre .1 .0 .0; from = omega (arith, o .inv .0, c .before .before .before .first-face2 .ensures .0); before = omega (arith, t, c .before .before .before .before .first-face .ensures .0) }, b .pre .1 .0 .1, b .pre .1 .0 .2),
         (omega (arith, b .pre .1 .1 .0, o .inv .3), omega (arith, o .inv .2, o .inv .1, t, c .before .before .before .before .first-face .ensures .1, b .pre .0 .spaced .few-faces, b .pre .1 .1 .1)),
       ),
     )
@@ -82,7 +82,7 @@ loop-again c =
       omega (arith, c .before .before .before .before .loop-test .taken),
       omega (arith, k .ensures .1, o .inv .2, o .inv .0),
       kept-long (a .coords .now) (a .room) (o .n) (k .ensures .0) ∙ o .inv .3,
-      grown-kept (a .coords .now) (a .room) (a .n) (overFace (a .l) (input (a .l .at) (a .work .now))) (c .before .before .before .before .before .before .first-face2 .result) (o .g) (a .findings .now) (o .findings) (k .last .1 .1 .1 .1 .1 .0) (o .n) (k .result) (o .inv .0) (o .inv .4) (k .ensures .0),
+      grown-kept (a .coords .now) (a .room) (a .n) (overFace (a .l) (input (a .l .at) (a .work .now))) (c .before .before .before .before .before .before .first-face2 .result) (o .g) (a .findings .now) (o .findings) (k .last .1 .1 .1 .1 .1 .1 .0) (o .n) (k .result) (o .inv .0) (o .inv .4) (k .ensures .0),
     )
 
 same-length : tie.Need-same-length Inv-loop μ-loop
