@@ -1,2 +1,3 @@
--- For internal contracts: the keys by which faces are found.
+-- For internal contracts: the keys by which faces are found, and how they are put.
 pub mod Keys
+pub mod Steps
