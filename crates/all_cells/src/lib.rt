@@ -4,7 +4,8 @@ ghost use Prim.Native.Nat.{_+_, _*_, _^_, _≤_, _<_};
 ghost use lib.ListN.{length};
 ghost use Rattle.laws.specs.Lists.{each, upFrom};
 ghost use Rattle.geometry.specs.Coordinates.{nodeCount};
-ghost use Rattle.index.specs.Faces.{input};
+ghost use Rattle.index.specs.Faces.{input, base};
+ghost use Rattle.triple_keys.specs.Keys.{Keyed};
 ghost use Rattle.records.specs.Keeping.{Kept};
 ghost use Rattle.layout.specs.Tables.{Faced, Standing, Still};
 ghost use Rattle.layout.specs.ByCell.{plainRules, bowCell, overCell, partlyCell};
@@ -77,12 +78,13 @@ pub fn keep_overs(
     coords: &[f64],
     work: &[u32],
     l: layout::Layout,
+    by: index::Places,
     findings: &mut [u8],
     room: usize,
     n: usize,
 ) -> usize
     requires { ⌜ Standing l (now work) ⌝ }
-    requires { ⌜ l .at .nodes ≡ nodeCount (now coords) ⌝ }
+    requires { ⌜ (l .at .nodes ≡ nodeCount (now coords)) × Keyed (l .at) by (base (l .at) (now work)) ⌝ }
     requires { ⌜ (64 * room ≤ length (now findings)) × (n ≤ 2 ^ 50) ⌝ }
     ensures { λ k. ⌜ KeptAny (now (coords .entry)) room n (each (overCell l (input (l .at) (now (work .entry)))) (upFrom 0 (l .at .«cell_count»))) (now (findings .entry)) (now (findings .exit)) k ⌝ }
     ensures { λ k. ⌜ k ≤ n + 2 ^ 40 ⌝ }
@@ -92,7 +94,7 @@ pub fn keep_overs(
     let mut k = n;
     let mut c = 0;
     while c < cells {
-        k = overfull::keep_overfull(coords, work, l, c, findings, room, k);
+        k = overfull::keep_overfull(coords, work, l, by, c, findings, room, k);
         c += 1;
     }
     k
@@ -104,13 +106,14 @@ pub fn keep_pairs(
     tol: f64,
     work: &mut [u32],
     l: layout::Layout,
+    by: index::Places,
     by_nodes: bool,
     findings: &mut [u8],
     room: usize,
     n: usize,
 ) -> usize
     requires { ⌜ Standing l (now work) ⌝ }
-    requires { ⌜ l .at .nodes ≡ nodeCount (now coords) ⌝ }
+    requires { ⌜ (l .at .nodes ≡ nodeCount (now coords)) × Keyed (l .at) by (base (l .at) (now work)) ⌝ }
     requires { ⌜ (64 * room ≤ length (now findings)) × (n ≤ 2 ^ 50) ⌝ }
     ensures { λ k. ⌜ Kept (plainRules (now (coords .entry)) tol) room n (each (partlyCell (plainRules (now (coords .entry)) tol) l (input (l .at) (now (work .entry)))) (upFrom 0 (l .at .«cell_count»))) (now (findings .entry)) (now (findings .exit)) k ⌝ }
     ensures { λ k. ⌜ (k ≤ n + 2 ^ 40) × Still l (now (work .entry)) (now (work .exit)) ⌝ }
@@ -120,7 +123,18 @@ pub fn keep_pairs(
     let mut k = n;
     let mut c = 0;
     while c < cells {
-        k = partially_shared::keep_partly(coords, tol, work, l, c, by_nodes, findings, room, k);
+        k = partially_shared::keep_partly(
+            coords,
+            tol,
+            work,
+            l,
+            by,
+            c,
+            by_nodes,
+            findings,
+            room,
+            k,
+        );
         c += 1;
     }
     k

@@ -7,8 +7,11 @@ ghost use Rattle.mesh.specs.Acceptance.{modelRefusal, workNeeded};
 ghost use Rattle.mesh.specs.Steps.{ModelCounted};
 ghost use Rattle.findings.specs.Rules.{fullOf};
 ghost use Rattle.findings.specs.Check.{Checking};
-ghost use Rattle.index.specs.Faces.{input};
-ghost use Rattle.layout.specs.Tables.{Faced};
+ghost use Rattle.index.specs.Faces.{input, base};
+ghost use Rattle.triple_keys.specs.Keys.{Keyed};
+ghost use Rattle.pairs.specs.Work.{byNodes};
+ghost use Rattle.layout.specs.Tables.{Faced, Standing};
+ghost use Rattle.layout.specs.Shown.{Tabled};
 ghost use Rattle.all_cells.specs.Cells.{KeptEver};
 ghost use Rattle.conformance.specs.Found.{Ready, topologyOf, butterfliesIn, KeptBy};
 
@@ -31,6 +34,28 @@ fn find_butterflies(
     all_cells::keep_bows(work, l, findings, room, 0)
 }
 
+// How candidates are sought: by common nodes or not, and the second index.
+pub struct Search {
+    pub by_nodes: bool,
+    pub by: index::Places,
+}
+
+// Builds the index of the faces by node, and the second one, on tables that stand.
+fn index_faces(work: &mut [u32], l: layout::Layout) -> Search
+    requires { ⌜ Tabled l (now work) ⌝ }
+    ensures { λ r. ⌜ r .«by_nodes» ≡ byNodes (l .at) (input (l .at) (now (work .entry))) ⌝ }
+    ensures { λ r. ⌜ Standing l (now (work .exit)) × Keyed (l .at) (r .by) (base (l .at) (now (work .exit))) ⌝ }
+    ensures { λ r. ⌜ input (l .at) (now (work .exit)) ≡ input (l .at) (now (work .entry)) ⌝ }
+{
+    let at = l.at;
+    let by_nodes = pairs::prepare(work, at);
+    let by = triple_keys::index_keys(work, at, l.second, l.total + 1);
+    Search {
+        by_nodes: by_nodes,
+        by: by,
+    }
+}
+
 // Kinds 2, 3 and 4, on tables that are built, behind n findings.
 fn find_topology(
     coords: &[f64],
@@ -50,10 +75,9 @@ fn find_topology(
     ensures { λ k. ⌜ KeptBy (modelOf (now (coords .entry)) (now (kinds .entry)) (now (ends .entry)) (now (words .entry)) tol (checks .0) 0) room n (topologyOf (modelOf (now (coords .entry)) (now (kinds .entry)) (now (ends .entry)) (now (words .entry)) tol (checks .0) 0)) (now (findings .entry)) (now (findings .exit)) k ⌝ }
     ensures { λ k. ⌜ k ≤ 2 ^ 42 ⌝ }
 {
-    let at = l.at;
-    let by_nodes = pairs::prepare(work, at);
-    let a = all_cells::keep_overs(coords, work, l, findings, room, n);
-    let b = all_cells::keep_pairs(coords, tol, work, l, by_nodes, findings, room, a);
+    let s = index_faces(work, l);
+    let a = all_cells::keep_overs(coords, work, l, s.by, findings, room, n);
+    let b = all_cells::keep_pairs(coords, tol, work, l, s.by, s.by_nodes, findings, room, a);
     all_cells::keep_repeats(coords, kinds, ends, words, work, l, findings, room, b)
 }
 

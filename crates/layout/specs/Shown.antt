@@ -26,11 +26,15 @@ pub record Shows (m : Model) (l : Layout) (t : List ℕ) : Type 0 where
   pub bows : (c : ℕ) → c < length (cellsOf m) → bowOf (l .at) t c ≡ rulesOf m .bow (getD (cellsOf m) c none)
   pub welds : region (l .weld) (l .at .nodes) t ≡ weldedAll (m .coords) (m .tolerance)
 
--- all tables are built in w; the index is not yet
-pub record Built (m : Model) (l : Layout) (w : List ℕ) : Type 0 where
+-- the tables stand in w, with room for all else; the indexes are not yet built
+pub record Tabled (l : Layout) (w : List ℕ) : Type 0 where
   pub faced : Faced l (input (l .at) w)
-  pub shows : Shows m l (input (l .at) w)
   pub room : Room (l .at) (length w)
   pub spaced : Spaced l (length w)
   pub unmarked : region (l .marks) (l .at .«cell_count») w ≡ replicate (l .at .«cell_count») 0
   pub fresh : region (l .last) (l .at .nodes) w ≡ replicate (l .at .nodes) 0
+
+-- all tables of m are built in w
+pub record Built (m : Model) (l : Layout) (w : List ℕ) : Type 0 where
+  pub tabled : Tabled l w
+  pub shows : Shows m l (input (l .at) w)

@@ -80,8 +80,13 @@ pub record Faced (l : Layout) (t : List ℕ) : Type 0 where
   pub owned : (c g : ℕ) → c < l .at .«cell_count» → firstOf l t c ≤ g → g < firstOf l t (c + 1) → cellOf (l .at) t g ≡ c
   pub welds : AllBelow (l .at .nodes) (region (l .weld) (l .at .nodes) t)
 
--- the scratch behind `found` has its room in n words, and a word or an index all numbers
+-- the second index has its room before `found`, with one number of a triple more than ring words, and the scratch behind it in n words;
+-- a word or an index has all numbers
 pub record Spaced (l : Layout) (n : ℕ) : Type 0 where
+  pub few-total : l .total ≤ 2 ^ 20
+  pub few-below : l .at .found < 2 ^ 40
+  pub second-at : l .at .index + l .at .words ≤ l .second
+  pub second-ends : l .second + (l .at .faces + 1) + l .at .words + (l .at .nodes + (l .total + 1) + 2) + l .at .words ≤ l .at .found
   pub few-words : l .at .words ≤ 2 ^ 20
   pub few-faces : l .at .faces ≤ 2 ^ 18
   pub few-cells : l .at .«cell_count» ≤ 2 ^ 18

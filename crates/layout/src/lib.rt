@@ -6,8 +6,8 @@ ghost use Rattle.index.specs.Faces.{input, cellOf};
 ghost use Rattle.layout.specs.Tables.{firstOf, Faced, Ringed};
 
 // The regions in their order, with the words of each: weld (nodes), rings (total), rows (faces + 1), firsts (cells + 1), then of the
-// pair search bows (cells) and cells (faces), keys (total), and again of the search starts, sets, offsets, index and found; behind them
-// marks and others (cells each), last (nodes), pairs and spare (2 * words each). A face's ring and its key start at the same row.
+// pair search bows (cells) and cells (faces), keys (total), and again of the search starts, sets, offsets, index; second (the second
+// index), and found; behind them marks and others (cells each), last (nodes), pairs and spare (2 * words each). A face's ring and its key start at the same row.
 pub struct Layout {
     pub at: index::Places,
     pub total: usize,
@@ -17,6 +17,7 @@ pub struct Layout {
     pub keys: usize,
     pub rows: usize,
     pub firsts: usize,
+    pub second: usize,
     pub marks: usize,
     pub others: usize,
     pub last: usize,

@@ -1,13 +1,15 @@
 -- What each step asks of the model, the places and the slice.
 use Prim.Native.Nat.{ℕ, _+_, _*_, _≤_, _<_, _^_}
-use mathlib.Core.Path.{_≡_, refl}
+use mathlib.Core.Path.{_≡_, refl, subst}
 use mathlib.Core.Bool.{false}
 use mathlib.Core.List.{List}
 use native.Mathlib.Nat.{le-trans}
 use native.Mathlib.Omega.{arith}
 use lib.ListN.{length, take}
+use Rattle.laws.specs.Lists.{each}
 use Rattle.geometry.specs.Coordinates.{nodeCount, coordinatesOff}
-use Rattle.mesh.specs.Model.{Model}
+use Rattle.mesh.specs.Model.{Model, Raw}
+use Rattle.mesh.specs.Rings.{ringsOf}
 use Rattle.mesh.specs.Acceptance.{modelRefusal, workNeeded}
 use Rattle.mesh.specs.Steps.{ringTotal, ModelCounted}
 use Rattle.mesh.specs.declared.CellTally.{CellTally}
@@ -28,6 +30,21 @@ pub record Inside (l : Layout) (n : ℕ) : Type 0 where
   pub offsets : l .at .offsets ≤ n
   pub pairs : l .pairs ≤ n
 
+-- what lies before the scratch lies in the slice
+scratch-in : (F C N M found marks others last pairs spare n : ℕ) → marks ≡ found + F → others ≡ marks + C → last ≡ others + C → pairs ≡ last + N → spare ≡ pairs + 2 * M
+    → spare + 2 * M ≤ n → (found ≤ n) × (pairs ≤ n)
+scratch-in F C N M found marks others last pairs spare n a b c d e h = omega arith
+
+-- so does what lies before the indexes
+tables-in : (R N X offsets index second found n : ℕ) → index ≡ offsets + (N + 2) → second ≡ index + R → found ≡ second + X → found ≤ n → offsets ≤ n
+tables-in R N X offsets index second found n a b c h = omega arith
+
+-- and each table
+each-in : (R F C rings rows firsts bows cells keys starts sets offsets n : ℕ) → rows ≡ rings + R → firsts ≡ rows + (F + 1) → bows ≡ firsts + (C + 1) → cells ≡ bows + C → keys ≡ cells + F
+    → starts ≡ keys + R → sets ≡ starts + (F + 1) → offsets ≡ sets + R → offsets ≤ n
+    → (rings + R ≤ n) × (rows + (F + 1) ≤ n) × (firsts + (C + 1) ≤ n) × (bows ≤ n) × (keys ≤ n)
+each-in R F C rings rows firsts bows cells keys starts sets offsets n a b c d e f g i h = omega arith
+
 module _ (m : Model) (ok : modelRefusal m ≡ 0) where
   -- the places: no sum wraps
   pub asks-plan : (t : CellTally) → ModelCounted m t → (t .words < 2 ^ 32) × (t .faces < 2 ^ 32) × (length (m .kinds) < 2 ^ 32) × (nodeCount (m .coords) < 2 ^ 32) × (length (m .words) < 2 ^ 32)
@@ -38,21 +55,41 @@ module _ (m : Model) (ok : modelRefusal m ≡ 0) where
   asks-weld w h = let f = few m ok in (refl, le-trans (work-room m ok) h, omega (arith, f .nodes), accepts m ok .places)
 
   module _ (K : ℕ) (l : Layout) (s : Settled (m .coords) (cells m ok) (length (m .words)) K l) (w : List ℕ) (h : workNeeded m ≤ length w) where
+    abbrev cs : List Raw
+    cs = cells m ok
+
+    abbrev rs : List (List ℕ)
+    rs = each ringsOf cs
+
     -- all places lie in the slice
     within : l .spare + 2 * length (m .words) ≤ length w
     within = le-trans (room m ok K l s) h
 
+    -- what lies before the scratch
+    scratch : (l .at .found ≤ length w) × (l .pairs ≤ length w)
+    scratch =
+        let p = s .planned in
+        scratch-in (length rs) (length cs) (nodeCount (m .coords)) (length (m .words)) (l .at .found) (l .marks) (l .others) (l .last) (l .pairs) (l .spare) (length w) (p .marks-at) (p .others-at) (p .last-at) (p .pairs-at) (p .spare-at) within
+
+    -- what lies before the indexes
+    below-index : l .at .offsets ≤ length w
+    below-index =
+        let p = s .planned in
+        tables-in (ringTotal rs) (nodeCount (m .coords)) (length rs + 1 + ringTotal rs + (nodeCount (m .coords) + ringTotal rs + 3) + ringTotal rs) (l .at .offsets) (l .at .index) (l .second) (l .at .found) (length w) (p .index-at) (p .second-at) (p .found-at) (scratch .0)
+
+    -- each table
+    tables : (l .rings + ringTotal rs ≤ length w) × (l .rows + (length rs + 1) ≤ length w) × (l .firsts + (length cs + 1) ≤ length w) × (l .at .bows ≤ length w) × (l .keys ≤ length w)
+    tables =
+        let p = s .planned in
+        each-in (ringTotal rs) (length rs) (length cs) (l .rings) (l .rows) (l .firsts) (l .at .bows) (l .at .cells) (l .keys) (l .at .starts) (l .at .sets) (l .at .offsets) (length w) (p .rows-at) (p .firsts-at) (p .bows-at) (p .cells-at) (p .keys-at) (p .starts-at) (p .sets-at) (p .offsets-at) below-index
+
     -- so do these
     pub inside : Inside l (length w)
-    inside =
-        let e = within in
-        record { bows = omega arith; keys = omega arith; offsets = omega arith; pairs = omega arith }
+    inside = record { bows = tables .3; keys = tables .4; offsets = below-index; pairs = scratch .1 }
 
     -- the rings
     pub asks-rings : Sound (m .kinds) (m .ends) (m .words) × ((l .rings + ringTotal (ringsIn (m .kinds) (m .ends) (m .words)) ≤ length w) × (l .rows + (length (ringsIn (m .kinds) (m .ends) (m .words)) + 1) ≤ length w) × (l .firsts + (length (m .kinds) + 1) ≤ length w))
-    asks-rings =
-        let e = within in
-        (sound-of m ok, (omega arith, omega arith, omega (arith, kinds-are m ok)))
+    asks-rings = (sound-of m ok, (tables .0, tables .1, subst (λ (k : ℕ). l .firsts + (k + 1) ≤ length w) (kinds-are m ok) (tables .2)))
 
     -- the marks and the cells of faces
     pub asks-marks : RingTables (m .coords) (m .tolerance) (cells m ok) l w

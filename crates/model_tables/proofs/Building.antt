@@ -146,7 +146,7 @@ module _ (m : Model) (ok : modelRefusal m ≡ 0) where
     -- the work has room for all
     pub room : l .spare + 2 * M ≤ workNeeded m
     unfolding workNeeded
-    room = let p = s .planned in omega (arith, kinds-are, faces-are m, words-are m)
+    room = let p = s .planned in omega (arith, kinds-are, faces-are m, words-are m, few .rings)
 
     module _ (n : ℕ) (end : l .spare + 2 * M ≤ n) where
       -- the index ends in the slice
@@ -171,6 +171,10 @@ module _ (m : Model) (ok : modelRefusal m ≡ 0) where
             let p = s .planned in
             let most = sets-total rs in
             record {
+              few-total = omega (arith, few .total);
+              few-below = omega (arith, few .total, few .rings, few .kinds, kinds-are, few .nodes);
+              second-at = omega arith;
+              second-ends = omega arith;
               few-words = omega (arith, few .total);
               few-faces = omega (arith, few .total, few .rings);
               few-cells = omega (arith, few .kinds, kinds-are);
@@ -217,10 +221,12 @@ module _ (m : Model) (ok : modelRefusal m ≡ 0) where
       built =
           let end : l .spare + 2 * M ≤ length w = le-trans room enough in
           record {
+            tabled = record {
             faced = faced (m .coords) (m .tolerance) cells M K l t s rings-in faces-in (length-take-le (l .at .offsets) w (tables-in (length w) end)) size;
-            shows = shows;
             room = roomy (length w) end size;
             spaced = spaced (length w) end size;
             unmarked = k .unmarked;
             fresh = k .fresh;
+            };
+            shows = shows;
           }

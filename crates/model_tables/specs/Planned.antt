@@ -16,7 +16,7 @@ pub record Searched (R F C N K b : ℕ) (p : Places) : Type 0 where
   pub sets-at : p .sets ≡ p .starts + (F + 1)
   pub offsets-at : p .offsets ≡ p .sets + R
   pub index-at : p .index ≡ p .offsets + (N + 2)
-  pub found-at : p .found ≡ p .index + R
+  pub found-at : p .found ≡ p .index + R + (F + 1 + R + (N + R + 3) + R)
 
 -- each region right behind the one before, for R ring words, F faces, C cells, N nodes, M words and K words of node sets
 pub record Planned (R F C N M K : ℕ) (l : Layout) : Type 0 where
@@ -37,7 +37,8 @@ pub record Planned (R F C N M K : ℕ) (l : Layout) : Type 0 where
   pub sets-at : l .at .sets ≡ l .at .starts + (F + 1)
   pub offsets-at : l .at .offsets ≡ l .at .sets + R
   pub index-at : l .at .index ≡ l .at .offsets + (N + 2)
-  pub found-at : l .at .found ≡ l .at .index + R
+  pub second-at : l .second ≡ l .at .index + R
+  pub found-at : l .at .found ≡ l .second + (F + 1 + R + (N + R + 3) + R)
   pub marks-at : l .marks ≡ l .at .found + F
   pub others-at : l .others ≡ l .marks + C
   pub last-at : l .last ≡ l .others + C

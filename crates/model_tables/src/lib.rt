@@ -22,10 +22,21 @@ ghost use Rattle.tables.specs.Owners.{ownersFrom};
 ghost use Rattle.model_tables.specs.Planned.{Searched, Planned};
 use layout::Layout;
 
-// The places of the tables of the pair search, from `bows` on, with the keys between them; see `plan`.
+// Where the regions of the scratch start.
+pub struct Scratch {
+    pub marks: usize,
+    pub others: usize,
+    pub last: usize,
+    pub pairs: usize,
+    pub spare: usize,
+}
+
+// The places of the tables of the pair search, from `bows` on, with the keys between them, and room for the second index before `found`;
+// see `plan`.
 fn plan_search(r: usize, f: usize, c: usize, n: usize, k: usize, bows: usize) -> index::Places
     requires { ⌜ (r < 2 ^ 32) × (f < 2 ^ 32) × (c < 2 ^ 32) × (n < 2 ^ 32) × (bows < 2 ^ 36) ⌝ }
     ensures { λ p. ⌜ Searched r f c n k bows p ⌝ }
+    ensures { λ p. ⌜ (p .cells < 2 ^ 40) × (p .index < 2 ^ 40) × (p .found < 2 ^ 40) ⌝ }
 {
     let cells = bows + c;
     let starts = cells + f + r;
@@ -43,7 +54,33 @@ fn plan_search(r: usize, f: usize, c: usize, n: usize, k: usize, bows: usize) ->
         sets: sets,
         offsets: offsets,
         index: index,
-        found: index + r,
+        found: index + r + (f + 1 + r + (n + r + 3) + r),
+    }
+}
+
+// A place b words behind a.
+fn behind(a: usize, b: usize) -> usize
+    requires { ⌜ (a < 2 ^ 40) × (b < 2 ^ 32) ⌝ }
+    ensures { λ r. ⌜ r ≡ a + b ⌝ }
+{
+    a + b
+}
+
+// The places of the scratch, behind `found`.
+fn plan_scratch(found: usize, f: usize, c: usize, n: usize, m: usize) -> Scratch
+    requires { ⌜ (found < 2 ^ 40) × (f < 2 ^ 32) × (c < 2 ^ 32) × (n < 2 ^ 32) × (m < 2 ^ 32) ⌝ }
+    ensures { λ s. ⌜ (s .marks ≡ found + f) × (s .others ≡ s .marks + c) × (s .last ≡ s .others + c) × (s .pairs ≡ s .last + n) × (s .spare ≡ s .pairs + 2 * m) ⌝ }
+{
+    let marks = found + f;
+    let others = marks + c;
+    let last = others + c;
+    let pairs = last + n;
+    Scratch {
+        marks: marks,
+        others: others,
+        last: last,
+        pairs: pairs,
+        spare: pairs + 2 * m,
     }
 }
 
@@ -55,24 +92,22 @@ fn plan(r: usize, f: usize, c: usize, n: usize, m: usize, k: usize) -> Layout
     let rows = n + r;
     let firsts = rows + (f + 1);
     let at = plan_search(r, f, c, n, k, firsts + (c + 1));
-    let marks = at.found + f;
-    let others = marks + c;
-    let last = others + c;
-    let pairs = last + n;
+    let s = plan_scratch(at.found, f, c, n, m);
     Layout {
         at: at,
         total: r,
         words: m,
         weld: 0,
         rings: n,
-        keys: at.cells + f,
+        keys: behind(at.cells, f),
         rows: rows,
         firsts: firsts,
-        marks: marks,
-        others: others,
-        last: last,
-        pairs: pairs,
-        spare: pairs + 2 * m,
+        second: behind(at.index, r),
+        marks: s.marks,
+        others: s.others,
+        last: s.last,
+        pairs: s.pairs,
+        spare: s.spare,
     }
 }
 

@@ -3,8 +3,9 @@ ghost use mathlib.Core.Path.{_≡_};
 ghost use Prim.Native.Nat.{_*_, _≤_, _^_};
 ghost use lib.ListN.{length};
 ghost use Rattle.laws.specs.Lists.{pairsOf, triplesOf};
-ghost use Rattle.index.specs.Faces.{input, Laid, Room, Indexed};
+ghost use Rattle.index.specs.Faces.{input, base, Laid, Room, Indexed};
 ghost use Rattle.seek.specs.Candidates.{Ready, Sought};
+ghost use Rattle.triple_keys.specs.Keys.{Keyed};
 ghost use Rattle.pairs.specs.Tables.{withIndex, ReadyAll};
 ghost use Rattle.pairs.specs.Work.{nodeWork, tripleWork, byNodes, Few};
 
@@ -87,14 +88,20 @@ pub fn prepare(work: &mut [u32], at: index::Places) -> bool
     by_nodes(&work[..found], at)
 }
 
-// The candidates of face lo; the slice is ready for the next face.
-pub fn candidates_of(work: &mut [u32], at: index::Places, lo: usize, by_nodes: bool) -> usize
-    requires { ⌜ Ready at lo (now work) ⌝ }
+// The candidates of face lo; `by` is the second index, and the slice is ready for the next face.
+pub fn candidates_of(
+    work: &mut [u32],
+    at: index::Places,
+    by: index::Places,
+    lo: usize,
+    by_nodes: bool,
+) -> usize
+    requires { ⌜ Ready at lo (now work) × Keyed at by (base at (now work)) ⌝ }
     ensures { λ r. ⌜ Sought at lo (now (work .entry)) (now (work .exit)) r ⌝ }
     ensures { λ r. ⌜ ReadyAll at (now (work .exit)) ⌝ }
 {
     if by_nodes {
         return seek::seek_by_nodes(work, at, lo);
     }
-    triples::seek_by_triples(work, at, lo)
+    triples::seek_by_triples(work, at, by, lo)
 }

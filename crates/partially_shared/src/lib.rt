@@ -7,8 +7,9 @@ ghost use lib.ListN.{length, getD, set};
 ghost use Rattle.laws.specs.Lists.{each, upFrom};
 ghost use Rattle.laws.specs.Merging.{region};
 ghost use Rattle.geometry.specs.Coordinates.{nodeCount};
-ghost use Rattle.index.specs.Faces.{input};
+ghost use Rattle.index.specs.Faces.{input, base};
 ghost use Rattle.seek.specs.Candidates.{candidates};
+ghost use Rattle.triple_keys.specs.Keys.{Keyed};
 ghost use Rattle.records.specs.Keeping.{Kept};
 ghost use Rattle.layout.specs.Tables.{Spaced, Standing, Still};
 ghost use Rattle.layout.specs.Kept.{KeptAny};
@@ -126,17 +127,18 @@ fn note_face(
     tol: f64,
     work: &mut [u32],
     l: layout::Layout,
+    by: index::Places,
     f: usize,
     by_nodes: bool,
     r: Range,
 ) -> Range
     requires { ⌜ Searching l (now work) ⌝ }
-    requires { ⌜ (f < l .at .faces) × (l .at .nodes ≡ nodeCount (now coords)) × (r .hi ≤ l .at .«cell_count») ⌝ }
+    requires { ⌜ (f < l .at .faces) × (l .at .nodes ≡ nodeCount (now coords)) × (r .hi ≤ l .at .«cell_count») × Keyed (l .at) by (base (l .at) (now work)) ⌝ }
     ensures { λ s. ⌜ MarkedMore l (input (l .at) (now (work .entry))) (faceHits (plainRules (now (coords .entry)) tol) l (input (l .at) (now (work .entry))) f) (now (work .entry)) (now (work .exit)) r s ⌝ }
     ensures { λ s. ⌜ Beside (l .at .found) l (now (work .entry)) (now (work .exit)) × (s .hi ≤ l .at .«cell_count») ⌝ }
 {
     let at = l.at;
-    let n = pairs::candidates_of(work, at, f, by_nodes);
+    let n = pairs::candidates_of(work, at, by, f, by_nodes);
     note_found(coords, tol, work, l, f, n, r)
 }
 
@@ -146,11 +148,12 @@ fn note_cell(
     tol: f64,
     work: &mut [u32],
     l: layout::Layout,
+    by: index::Places,
     c: usize,
     by_nodes: bool,
 ) -> Range
     requires { ⌜ Standing l (now work) ⌝ }
-    requires { ⌜ (c < l .at .«cell_count») × (l .at .nodes ≡ nodeCount (now coords)) ⌝ }
+    requires { ⌜ (c < l .at .«cell_count») × (l .at .nodes ≡ nodeCount (now coords)) × Keyed (l .at) by (base (l .at) (now work)) ⌝ }
     ensures { λ s. ⌜ Marked l (input (l .at) (now (work .entry))) (cellHits (plainRules (now (coords .entry)) tol) l (input (l .at) (now (work .entry))) c) (now (work .exit)) s ⌝ }
     ensures { λ s. ⌜ Beside (l .at .found) l (now (work .entry)) (now (work .exit)) × (s .hi ≤ l .at .«cell_count») ⌝ }
 {
@@ -162,7 +165,7 @@ fn note_cell(
     };
     let mut f = layout::first_face(work, l, c);
     while f < end {
-        s = note_face(coords, tol, work, l, f, by_nodes, s);
+        s = note_face(coords, tol, work, l, by, f, by_nodes, s);
         f += 1;
     }
     s
@@ -261,6 +264,7 @@ pub fn keep_partly(
     tol: f64,
     work: &mut [u32],
     l: layout::Layout,
+    by: index::Places,
     c: usize,
     by_nodes: bool,
     findings: &mut [u8],
@@ -268,11 +272,11 @@ pub fn keep_partly(
     n: usize,
 ) -> usize
     requires { ⌜ Standing l (now work) ⌝ }
-    requires { ⌜ (c < l .at .«cell_count») × (l .at .nodes ≡ nodeCount (now coords)) ⌝ }
+    requires { ⌜ (c < l .at .«cell_count») × (l .at .nodes ≡ nodeCount (now coords)) × Keyed (l .at) by (base (l .at) (now work)) ⌝ }
     requires { ⌜ (64 * room ≤ length (now findings)) × (n ≤ 2 ^ 56) ⌝ }
     ensures { λ k. ⌜ Kept (plainRules (now (coords .entry)) tol) room n (partlyCell (plainRules (now (coords .entry)) tol) l (input (l .at) (now (work .entry))) c) (now (findings .entry)) (now (findings .exit)) k ⌝ }
     ensures { λ k. ⌜ (k ≤ n + 2 ^ 18) × Still l (now (work .entry)) (now (work .exit)) ⌝ }
 {
-    let r = note_cell(coords, tol, work, l, c, by_nodes);
+    let r = note_cell(coords, tol, work, l, by, c, by_nodes);
     keep_range(coords, work, l, c, r, findings, room, n)
 }

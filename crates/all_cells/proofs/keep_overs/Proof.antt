@@ -15,10 +15,10 @@ use Rattle.all_cells.proofs.keep_overs.Statement.{statement}
 use Rattle.all_cells.proofs.keep_overs.Tie as tie
 
 abbrev Inv-loop : tie.InvT-loop
-Inv-loop coords work l findings₀ room n cells k₀ c₀ findings k c = KeptAny coords room n (each (overCell l (input (l .at) work)) (upFrom 0 c)) findings₀ findings k × (k ≤ n + 262144 * c) × (c ≤ cells) × (length findings ≡ length findings₀)
+Inv-loop coords work l by findings₀ room n cells k₀ c₀ findings k c = KeptAny coords room n (each (overCell l (input (l .at) work)) (upFrom 0 c)) findings₀ findings k × (k ≤ n + 262144 * c) × (c ≤ cells) × (length findings ≡ length findings₀)
 
 abbrev μ-loop : tie.MeasureT-loop
-μ-loop coords work l findings₀ room n cells k₀ c₀ findings k c = cells - c
+μ-loop coords work l by findings₀ room n cells k₀ c₀ findings k c = cells - c
 
 loop-holds : tie.Need-loop-holds Inv-loop μ-loop
 loop-holds c =
@@ -30,7 +30,7 @@ keep-overfull-requires c κs =
     let b = c .before .before .before .before .before .before .before in
     let o = c .before .before .loop in
     let h = c .before .loop-test .taken in
-    (b .pre .0, ((h, b .pre .1 .0), (omega (arith, b .pre .1 .1 .0, o .inv .3), omega (arith, o .inv .1, h, b .pre .0 .spaced .few-cells, b .pre .1 .1 .1))))
+    (b .pre .0, ((h, b .pre .1 .0 .0, b .pre .1 .0 .1), (omega (arith, b .pre .1 .1 .0, o .inv .3), omega (arith, o .inv .1, h, b .pre .0 .spaced .few-cells, b .pre .1 .1 .1))))
 
 add-c : tie.Need-add-c Inv-loop μ-loop
 add-c c = search needs
@@ -45,10 +45,10 @@ loop-again c =
     let o = c .before .before .before .before .before .loop in
     let h = c .before .before .before .before .loop-test .taken in
     let y = c .before .before .keep-overfull in (
-      λ tol. pass-next (plainRules (a .coords .now) tol) (a .room) (a .n) (o .k) (y .result) (overCell (a .l) (input (a .l .at) (a .work .now))) (o .c) (a .findings .now) (o .findings) (y .last .1 .1 .1 .1 .0) (o .inv .0 tol) (y .ensures .0 tol),
+      λ tol. pass-next (plainRules (a .coords .now) tol) (a .room) (a .n) (o .k) (y .result) (overCell (a .l) (input (a .l .at) (a .work .now))) (o .c) (a .findings .now) (o .findings) (y .last .1 .1 .1 .1 .1 .0) (o .inv .0 tol) (y .ensures .0 tol),
       omega (arith, o .inv .1, y .ensures .1),
       omega (arith, h),
-      kept-long (plainRules (a .coords .now) zero64) (a .room) (o .k) (y .result) _ (o .findings) (y .last .1 .1 .1 .1 .0) (y .ensures .0 zero64) ∙ o .inv .3,
+      kept-long (plainRules (a .coords .now) zero64) (a .room) (o .k) (y .result) _ (o .findings) (y .last .1 .1 .1 .1 .1 .0) (y .ensures .0 zero64) ∙ o .inv .3,
     )
 
 same-length : tie.Need-same-length Inv-loop μ-loop

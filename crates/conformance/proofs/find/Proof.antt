@@ -19,7 +19,7 @@ find-butterflies-requires c κs =
     let m = modelOf (a .coords .now) (a .kinds .now) (a .ends .now) (a .words .now) (a .tol) (a .checks .0) 0 in
     let x = c .before .before .before .before .build-tables in
     let built = x .ensures in
-    (built .faced, (built .spaced .few-cells, b .pre .1))
+    (built .tabled .faced, (built .tabled .spaced .few-cells, b .pre .1))
 
 contains-requires : tie.Need-contains-requires
 contains-requires c κs = search needs

@@ -1,10 +1,11 @@
 -- `partially_shared::note_cell` meets its contract.
 use Prim.Native.Nat.{_+_, _-_, _≤_}
-use mathlib.Core.Path.{_≡_, refl}
+use mathlib.Core.Path.{_≡_, refl, sym, subst}
 use native.Mathlib.Omega.{arith}
 use borrow.Author.Needs.{needs}
 use lib.ListN.{length}
 use Rattle.index.specs.Faces.{input}
+use Rattle.triple_keys.specs.Keys.{Keyed}
 use Rattle.layout.specs.Tables.{firstOf}
 use Rattle.layout.specs.ByCell.{plainRules}
 use Rattle.partially_shared.proofs.Searched.{searches}
@@ -13,10 +14,10 @@ use Rattle.partially_shared.proofs.note_cell.Statement.{statement}
 use Rattle.partially_shared.proofs.note_cell.Tie as tie
 
 abbrev Inv-loop : tie.InvT-loop
-Inv-loop coords tol work₀ l c by-nodes end s₀ f₀ work s f = Facing (plainRules coords tol) l f₀ work₀ work s f × (length work ≡ length work₀) × (f₀ ≤ f) × (f ≤ end)
+Inv-loop coords tol work₀ l by c by-nodes end s₀ f₀ work s f = Facing (plainRules coords tol) l f₀ work₀ work s f × (length work ≡ length work₀) × (f₀ ≤ f) × (f ≤ end)
 
 abbrev μ-loop : tie.MeasureT-loop
-μ-loop coords tol work₀ l c by-nodes end s₀ f₀ work s f = end - f
+μ-loop coords tol work₀ l by c by-nodes end s₀ f₀ work s f = end - f
 
 add-first-face : tie.Need-add-first-face Inv-loop μ-loop
 add-first-face c = search needs
@@ -37,7 +38,7 @@ note-face-requires : tie.Need-note-face-requires Inv-loop μ-loop
 note-face-requires c κs =
     let b = c .before .before .before .before .before .before .before .before .before .before in
     let o = c .before .before .loop in
-    (o .inv .0 .search, (omega (arith, c .before .loop-test .taken, c .before .before .before .before .before .first-face .ensures .1), b .pre .1 .1, o .inv .0 .high))
+    (o .inv .0 .search, (omega (arith, c .before .loop-test .taken, c .before .before .before .before .before .first-face .ensures .1), b .pre .1 .1, o .inv .0 .high, subst (Keyed (b .args .l .at) (b .args .by)) (sym (o .inv .0 .beside .before)) (b .pre .1 .2)))
 
 add-f : tie.Need-add-f Inv-loop μ-loop
 add-f c = search needs

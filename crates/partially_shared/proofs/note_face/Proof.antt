@@ -9,7 +9,7 @@ use Rattle.partially_shared.proofs.note_face.Tie as tie
 candidates-of-requires : tie.Need-candidates-of-requires
 candidates-of-requires c κs =
     let b = c .before .before .before .before in
-    face-ready (b .args .l) (b .args .work .now) (b .args .f) (b .pre .0) (b .pre .1 .0)
+    (face-ready (b .args .l) (b .args .work .now) (b .args .f) (b .pre .0) (b .pre .1 .0), b .pre .1 .3)
 
 note-found-requires : tie.Need-note-found-requires
 note-found-requires c κs =
