@@ -1,53 +1,39 @@
--- From the check's promise to the exported one, for each case of the answer.
-use Prim.Native.Nat.{ℕ, suc}
+-- From the check's promise to the exported one, for each case of the answer; and what the check needs.
+use Prim.Native.Nat.{ℕ, _+_, _*_}
 use mathlib.Core.Path.{_≡_, sym, ap, _∙_}
-use mathlib.Core.Bool.{true, false}
 use mathlib.Core.List.{List}
-use mathlib.Core.Logic.{_⊎_, inl, inr}
-use native.Mathlib.Omega.{arith}
-use borrow.Author.Tests.{eqb-true}
-use lib.Dec.{eqb}
+use mathlib.Core.Logic.{_≢_}
+use borrow.Author.Tests.{ne-eqb}
 use lib.ListN.{length}
-use Rattle.laws.specs.Refusals.{Answer, refused, done, answer}
-use Rattle.laws.proofs.Tests.{tested}
+use Rattle.geometry.specs.Coordinates.{nodeCount}
 use Rattle.mesh.specs.Model.{Model}
-use Rattle.findings.specs.Check.{Totals, totalsOf, checkRefusal, checkTold, Checking}
+use Rattle.mesh.specs.Acceptance.{modelRefusal}
+use Rattle.mesh.specs.Steps.{ModelCounted}
+use Rattle.mesh.specs.declared.CellTally.{CellTally}
+use Rattle.ring_lists.proofs.Answers.{work-is}
+use Rattle.findings.specs.Check.{totalsOf, checkRefusal, checkTold, Checking}
 use Rattle.findings.specs.declared.CheckAnswer.{CheckAnswer}
 use Rattle.findings.specs.declared.CheckAnswer.the-variants.{Refused, Report}
-use Rattle.capi.specs.Exported.{Exported}
+use Rattle.capi.specs.Exported.{WorkExport, Exported}
+use Rattle.capi.proofs.Told.{told-refused, told-done}
 
--- ---- an answer taken apart
+-- ---- the work needed
 
--- one more than the number of a refusal, else 0
-abbrev number : Answer Totals → ℕ
-number (refused n) = suc n
-number (done t) = 0
+module _ (m : Model) (need rings faces : ℕ) (t : CellTally) (k : ModelCounted m t) where
+  -- refused: nothing is written
+  pub work-refused : t .refusal ≢ 0 → WorkExport m need need rings rings faces faces (t .refusal)
+  work-refused z =
+      let q = ne-eqb (modelRefusal m) 0 (λ e. z (k .refusal ∙ e)) in
+      record { answered = k .refusal; needIs = rw q; ringsAre = rw q; facesAre = rw q }
 
-abbrev totalIn : Answer Totals → ℕ
-totalIn (refused n) = 0
-totalIn (done t) = t .total
+  -- accepted: what was counted
+  pub work-done : (n : ℕ) → t .refusal ≡ 0 → n ≡ 8 * t .words + 4 * t .faces + 8 * length (m .kinds) + 4 * nodeCount (m .coords) + 4 * length (m .words) + 16
+      → WorkExport m need n rings (t .words) faces (t .faces) 0
+  work-done n z e =
+      let q = sym (k .refusal) ∙ z in
+      record { answered = sym q; needIs = rw q (e ∙ work-is m t k z); ringsAre = rw q (k .words z); facesAre = rw q (k .faces z) }
 
-abbrev keptIn : Answer Totals → ℕ
-keptIn (refused n) = 0
-keptIn (done t) = t .kept
-
--- a refusal's number is the table's, and not 0
-told-refused : (n x : ℕ) (t : Totals) → refused n ≡ answer x t → (n ≡ x) × (eqb x 0 ≡ false)
-told-refused n x t e = go (tested (eqb x 0))
-  where
-    go : (eqb x 0 ≡ true) ⊎ (eqb x 0 ≡ false) → (n ≡ x) × (eqb x 0 ≡ false)
-    go (inl b) = absurd (omega (arith, ap number (rw b at e)))
-    go (inr b) = (omega (arith, ap number (rw b at e)), b)
-
--- a report comes where nothing is refused
-told-done : (x : ℕ) (s t : Totals) → done s ≡ answer x t → (x ≡ 0) × (s .total ≡ t .total) × (s .kept ≡ t .kept)
-told-done x s t e = go (tested (eqb x 0))
-  where
-    go : (eqb x 0 ≡ true) ⊎ (eqb x 0 ≡ false) → (x ≡ 0) × (s .total ≡ t .total) × (s .kept ≡ t .kept)
-    go (inl b) = (eqb-true x 0 b, ap totalIn (rw b at e), ap keptIn (rw b at e))
-    go (inr b) = absurd (omega (arith, ap number (rw b at e)))
-
--- ---- the promise
+-- ---- the check
 
 module _ (m : Model) (findings work : List ℕ) (total kept : ℕ) {findings' work' : List ℕ} where
   -- refused: total and kept stay
@@ -62,8 +48,8 @@ module _ (m : Model) (findings work : List ℕ) (total kept : ℕ) {findings' wo
       let h = told-done (checkRefusal m work) (record { total = t; kept = k }) (totalsOf m (length findings)) (sym (ap checkTold e) ∙ p .answered) in
       record {
         answered = sym (h .0);
-        totalIs = rw (h .0) (h .1);
-        keptIs = rw (h .0) (h .2);
+        totalIs = rw (h .0) (ap (λ s. s .total) (h .1));
+        keptIs = rw (h .0) (ap (λ s. s .kept) (h .1));
         findingsAre = p .findingsAre;
         workIs = p .workIs;
       }

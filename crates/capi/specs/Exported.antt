@@ -1,22 +1,25 @@
--- The exported check: its answer is a number, and total and kept are lent.
+-- The exported check, and what it needs: answers are numbers, and total and kept are lent.
 use Prim.Native.Nat.{ℕ}
-use mathlib.Core.Bool.{cond}
 use mathlib.Core.List.{List}
 use mathlib.Core.Path.{_≡_}
-use lib.Dec.{eqb}
 use lib.ListN.{length, replicate}
 use Rattle.laws.specs.Refusals.{filled}
 use Rattle.mesh.specs.Model.{Model}
-use Rattle.mesh.specs.Acceptance.{workNeeded}
+use Rattle.mesh.specs.Rings.{ringWords}
+use Rattle.mesh.specs.Acceptance.{modelRefusal, facesIn, workNeeded}
 use Rattle.findings.specs.Rules.{rulesOf, fullOf}
 use Rattle.findings.specs.Records.{keptBytes}
 use Rattle.findings.specs.Check.{totalsOf, checkRefusal}
+use Rattle.capi.specs.Written.{written}
 
--- a lent number after an operation: v where n, the refusal, is 0; unchanged where it is not
-abbrev pub written : ℕ → ℕ → ℕ → ℕ
-written n v lent = cond (eqb n 0) v lent
+-- The work needed: 0 or the model's refusal, 5 to 10; words of work, ring words and faces, written only where that is 0.
+pub record WorkExport (m : Model) (need need' rings rings' faces faces' r : ℕ) : Type 0 where
+  pub answered : r ≡ modelRefusal m
+  pub needIs : need' ≡ written (modelRefusal m) (workNeeded m) need
+  pub ringsAre : rings' ≡ written (modelRefusal m) (length (ringWords (facesIn m))) rings
+  pub facesAre : faces' ≡ written (modelRefusal m) (length (facesIn m)) faces
 
--- Its promise: 0 or the refusal's number; total and kept, written only where that is 0; findings and work as the check promises them (`Checking`).
+-- The check: 0 or the refusal's number; total and kept, written only where that is 0; findings and work as the check promises them (`Checking`).
 pub record Exported (m : Model) (findings findings' work work' : List ℕ) (total total' kept kept' r : ℕ) : Type 0 where
   pub answered : r ≡ checkRefusal m work
   pub totalIs : total' ≡ written (checkRefusal m work) (totalsOf m (length findings) .total) total
