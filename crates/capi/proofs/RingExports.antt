@@ -9,8 +9,7 @@ use lib.ListN.{length, take, drop}
 use Rattle.laws.specs.Refusals.{refusal}
 use Rattle.mesh.specs.Model.{Model}
 use Rattle.mesh.specs.Acceptance.{facesIn}
-use Rattle.mesh.specs.Lookup.{named, lookupRefusal, ringPart, ownersOf, ownersTable, ownersAnswer, ownersAfter, countTold}
-use Rattle.mesh.specs.declared.RingList.{RingList}
+use Rattle.mesh.specs.Lookup.{named, lookupRefusal, ownersOf, ownersTable, ownersAnswer, ownersAfter, countTold}
 use Rattle.mesh.specs.declared.Counted.{Counted}
 use Rattle.mesh.specs.declared.Counted.the-variants as Counts
 use Rattle.ring_lists.specs.Filling.{rawRings, fillRefusal, fillTold, Filling}

@@ -1,7 +1,7 @@
 -- What the exported operations promise.
 pub mod Written
 pub mod Files
-pub mod Exported
+pub mod Checks
 pub mod FaceRings
 pub mod Nodes
 pub mod Reports

@@ -1,7 +1,7 @@
 // The operations for programs in C and Rust: a slice is a pointer and a length, an out-parameter a pointer.
 // Each answers 0 or the refusal's number; at a refusal nothing is written.
 ghost use Rattle.mesh.specs.Model.{modelOf};
-ghost use Rattle.capi.specs.Exported.{WorkExport, Exported};
+ghost use Rattle.capi.specs.Checks.{WorkExport, CheckExport};
 use findings::CheckAnswer;
 
 mod model_files; // reading and writing a file
@@ -50,7 +50,7 @@ pub extern "C" fn lenoshale_check(
     total: &mut u64,
     kept: &mut u64,
 ) -> u32
-    ensures { λ r. ⌜ Exported (modelOf (now (coords .entry)) (now (kinds .entry)) (now (ends .entry)) (now (words .entry)) tol flags cap) (now (findings .entry)) (now (findings .exit)) (now (work .entry)) (now (work .exit)) (now (total .entry)) (now (total .exit)) (now (kept .entry)) (now (kept .exit)) r ⌝ }
+    ensures { λ r. ⌜ CheckExport (modelOf (now (coords .entry)) (now (kinds .entry)) (now (ends .entry)) (now (words .entry)) tol flags cap) (now (findings .entry)) (now (findings .exit)) (now (work .entry)) (now (work .exit)) (now (total .entry)) (now (total .exit)) (now (kept .entry)) (now (kept .exit)) r ⌝ }
 {
     let checks = mesh::Checks(flags);
     let a = conformance::check(coords, kinds, ends, words, tol, checks, cap, findings, work);

@@ -10,7 +10,7 @@ use Rattle.laws.specs.Limits.{cellLimit, wordLimit}
 use Rattle.mesh.specs.Model.{modelOf}
 use Rattle.mesh.proofs.Accepts.{accepts}
 use Rattle.ring_lists.proofs.Lists.{few-nodes}
-use Rattle.capi.proofs.Exports.{work-refused, work-done}
+use Rattle.capi.proofs.CheckExports.{work-refused, work-done}
 
 accept-requires : tie.Need-accept-requires
 accept-requires c κs = search needs

@@ -20,7 +20,7 @@ pub record WorkExport (m : Model) (need need' rings rings' faces faces' r : ℕ)
   pub facesAre : faces' ≡ written (modelRefusal m) (length (facesIn m)) faces
 
 -- The check: 0 or the refusal's number; total and kept, written only where that is 0; findings and work as the check promises them (`Checking`).
-pub record Exported (m : Model) (findings findings' work work' : List ℕ) (total total' kept kept' r : ℕ) : Type 0 where
+pub record CheckExport (m : Model) (findings findings' work work' : List ℕ) (total total' kept kept' r : ℕ) : Type 0 where
   pub answered : r ≡ checkRefusal m work
   pub totalIs : total' ≡ written (checkRefusal m work) (totalsOf m (length findings) .total) total
   pub keptIs : kept' ≡ written (checkRefusal m work) (totalsOf m (length findings) .kept) kept

@@ -14,7 +14,7 @@ use Rattle.ring_lists.proofs.Answers.{work-is}
 use Rattle.findings.specs.Check.{totalsOf, checkRefusal, checkTold, Checking}
 use Rattle.findings.specs.declared.CheckAnswer.{CheckAnswer}
 use Rattle.findings.specs.declared.CheckAnswer.the-variants.{Refused, Report}
-use Rattle.capi.specs.Exported.{WorkExport, Exported}
+use Rattle.capi.specs.Checks.{WorkExport, CheckExport}
 use Rattle.capi.proofs.Told.{told-refused, told-done}
 
 -- ---- the work needed
@@ -37,13 +37,13 @@ module _ (m : Model) (need rings faces : ℕ) (t : CellTally) (k : ModelCounted 
 
 module _ (m : Model) (findings work : List ℕ) (total kept : ℕ) {findings' work' : List ℕ} where
   -- refused: total and kept stay
-  pub refused-so : {r : CheckAnswer} (n : ℕ) → r ≡ Refused n → Checking m findings findings' work work' r → Exported m findings findings' work work' total total kept kept n
+  pub refused-so : {r : CheckAnswer} (n : ℕ) → r ≡ Refused n → Checking m findings findings' work work' r → CheckExport m findings findings' work work' total total kept kept n
   refused-so n e p =
       let h = told-refused n (checkRefusal m work) (totalsOf m (length findings)) (sym (ap checkTold e) ∙ p .answered) in
       record { answered = h .0; totalIs = rw (h .1); keptIs = rw (h .1); findingsAre = p .findingsAre; workIs = p .workIs }
 
   -- a report: total and kept are its own
-  pub report-so : {r : CheckAnswer} (t k : ℕ) → r ≡ Report t k → Checking m findings findings' work work' r → Exported m findings findings' work work' total t kept k 0
+  pub report-so : {r : CheckAnswer} (t k : ℕ) → r ≡ Report t k → Checking m findings findings' work work' r → CheckExport m findings findings' work work' total t kept k 0
   report-so t k e p =
       let h = told-done (checkRefusal m work) (record { total = t; kept = k }) (totalsOf m (length findings)) (sym (ap checkTold e) ∙ p .answered) in
       record {
