@@ -1,6 +1,6 @@
 /* Times the check on the largest models of document 01.
  *
- *   bench              a line for each model, tolerance and cap: best of five calls, in milliseconds
+ *   bench [MODEL]      a line for each model, or for that one, tolerance and cap: best of five calls, in milliseconds
  *   bench --write DIR  writes the models as files into DIR, to time another checker on the same ones
  *
  * Before each call the lent work and findings are filled with 170, and that is not timed. After it the answer, the total and the lent
@@ -333,12 +333,14 @@ static int measure(const Case *c, double tolerance, uint32_t cap, uint8_t *lent)
     return fault != NULL;
 }
 
-static int measure_all(void) {
+/* All models, or the one of that name. */
+static int measure_all(const char *only) {
     uint8_t *lent = malloc(RECORD * RECORDS);
     int faults = 0;
     if (lent == NULL) over("findings");
     printf("%-15s %6s %7s %9s %6s %8s %6s %10s\n", "model", "cells", "faces", "tolerance", "cap", "total", "kept", "ms");
     for (size_t i = 0; i < sizeof cases / sizeof *cases; i++) {
+        if (only != NULL && strcmp(only, cases[i].name) != 0) continue;
         build(&cases[i]);
         for (size_t t = 0; t < 2; t++)
             for (size_t k = 0; k < 2; k++) faults += measure(&cases[i], tolerances[t], caps[k], lent);
@@ -388,8 +390,9 @@ static int write_all(const char *dir) {
 }
 
 int main(int argc, char **argv) {
-    if (argc == 1) return measure_all();
+    if (argc == 1) return measure_all(NULL);
+    if (argc == 2 && argv[1][0] != '-') return measure_all(argv[1]);
     if (argc == 3 && strcmp(argv[1], "--write") == 0) return write_all(argv[2]);
-    fprintf(stderr, "usage: bench [--write DIR]\n");
+    fprintf(stderr, "usage: bench [MODEL | --write DIR]\n");
     return 2;
 }

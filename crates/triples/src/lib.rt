@@ -55,7 +55,7 @@ fn share_three(base: &[u32], at: index::Places, lo: usize, g: usize) -> bool
     has_three(base, s, k, t, j)
 }
 
-// Face g is a candidate of lo: the cheap tests first, the whole node sets last.
+// Face g is a candidate of lo: the cheap tests first, the common nodes last.
 fn is_hit(base: &[u32], at: index::Places, lo: usize, g: usize) -> bool
     requires { ⌜ Indexed at (now base) ⌝ }
     requires { ⌜ (lo < at .faces) × (g < at .faces) ⌝ }
@@ -64,10 +64,10 @@ fn is_hit(base: &[u32], at: index::Places, lo: usize, g: usize) -> bool
     if !seek::is_apart(base, at, lo, g) {
         return false;
     }
-    if !share_three(base, at, lo, g) {
+    if seek::same_set(base, at, lo, g) {
         return false;
     }
-    !seek::same_set(base, at, lo, g)
+    share_three(base, at, lo, g)
 }
 
 // How many faces have key v.

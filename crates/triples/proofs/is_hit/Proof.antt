@@ -1,8 +1,8 @@
 -- `triples::is_hit` meets its contract. One test after the other.
 use Prim.Native.Nat.{ℕ}
-use mathlib.Core.Bool.{Bool, true, false, not, _&&_, and-true, and-false}
+use mathlib.Core.Bool.{Bool, not, _&&_, and-false}
 use mathlib.Core.List.{List}
-use mathlib.Core.Path.{_≡_, refl, sym, ap, _∙_}
+use mathlib.Core.Path.{_≡_, sym, ap, _∙_}
 use borrow.Author.Tests.{not-true, not-false}
 use borrow.Author.Needs.{needs}
 use lib.Dec.{leb}
@@ -29,22 +29,22 @@ returns c =
     let a = c .before .before .before .args in
     sym (three (a .at) (input (a .at) (a .base .now)) (a .lo) (a .g) ∙ rw (sym (c .before .is-apart .ensures) ∙ not-true (c .before .is-apart .result) (c .if1 .taken)))
 
-share-three-requires : tie.Need-share-three-requires
-share-three-requires c κs = search needs
+same-set-requires : tie.Need-same-set-requires
+same-set-requires c κs = search needs
 
 returns-2 : tie.Need-returns-2
 returns-2 c =
     let a = c .before .before .before .before .before .args in
-    sym (three (a .at) (input (a .at) (a .base .now)) (a .lo) (a .g) ∙ rw (sym (c .before .share-three .ensures) ∙ not-true (c .before .share-three .result) (c .if2 .taken)) (and-false (apart (a .at) (input (a .at) (a .base .now)) (a .lo) (a .g) && not (eql (nodesOf (a .at) (input (a .at) (a .base .now)) (a .lo)) (nodesOf (a .at) (input (a .at) (a .base .now)) (a .g))))))
+    sym (three (a .at) (input (a .at) (a .base .now)) (a .lo) (a .g) ∙ rw (sym (c .before .same-set .ensures) ∙ c .if2 .taken) (ap (λ (x : Bool). x && leb 3 (length (common (nodesOf (a .at) (input (a .at) (a .base .now)) (a .lo)) (nodesOf (a .at) (input (a .at) (a .base .now)) (a .g))))) (and-false (apart (a .at) (input (a .at) (a .base .now)) (a .lo) (a .g)))))
 
-same-set-requires : tie.Need-same-set-requires
-same-set-requires c κs = search needs
+share-three-requires : tie.Need-share-three-requires
+share-three-requires c κs = search needs
 
 returns-3 : tie.Need-returns-3
 returns-3 c =
     let a = c .before .before .before .before .before .before .args in
-    ap not (c .same-set .ensures)
-    ∙ sym (three (a .at) (input (a .at) (a .base .now)) (a .lo) (a .g) ∙ rw (sym (c .before .before .share-three .ensures) ∙ not-false (c .before .before .share-three .result) (c .before .if2 .left), sym (c .before .before .before .before .is-apart .ensures) ∙ not-false (c .before .before .before .before .is-apart .result) (c .before .before .before .if1 .left)) (and-true (not (eql (nodesOf (a .at) (input (a .at) (a .base .now)) (a .lo)) (nodesOf (a .at) (input (a .at) (a .base .now)) (a .g))))))
+    c .share-three .ensures
+    ∙ sym (three (a .at) (input (a .at) (a .base .now)) (a .lo) (a .g) ∙ rw (sym (c .before .before .same-set .ensures) ∙ c .before .if2 .left, sym (c .before .before .before .before .is-apart .ensures) ∙ not-false (c .before .before .before .before .is-apart .result) (c .before .before .before .if1 .left)))
 
 pub is-hit-spec : {M : Type 1} → statement M
 is-hit-spec =
@@ -52,7 +52,7 @@ is-hit-spec =
     (tie.spec
     is-apart-requires
     returns
-    share-three-requires
-    returns-2
     same-set-requires
+    returns-2
+    share-three-requires
     returns-3)
