@@ -16,8 +16,12 @@ use crate::way::Way;
 
 const MOST_BYTES: usize = 2048;
 const MOST_FINDINGS: usize = 16;
-/// Models of each family, by the way that the reference takes: nodes, triples, no pairs sought.
-const WANTED: [usize; 3] = [15, 12, 3];
+/// Models of each family.
+const MODELS: usize = 30;
+/// How many of them are wanted by the way that the reference takes: nodes, triples, no pairs sought.
+const WANTED: [usize; 3] = [14, 14, 2];
+/// After so many models tried, any way will do.
+const TRIES: usize = 2000;
 /// Bytes of a file at most.
 const MOST_FILE: usize = 65_536;
 
@@ -59,11 +63,14 @@ fn entry(m: &Model, rng: &mut Rng) -> Option<(Vec<u8>, usize)> {
     Some((bytes, way))
 }
 
-/// The entries of a family.
-fn chosen((_, make): Family, rng: &mut Rng) -> Vec<Vec<u8>> {
+/// The entries of a family. Where a way is rare in small models, the other makes up for it.
+fn chosen((_, make): Family, rng: &mut Rng, counts: &mut [usize; 3]) -> Vec<Vec<u8>> {
     let mut left = WANTED;
     let mut entries = Vec::new();
-    while left != [0; 3] {
+    for tried in 0.. {
+        if entries.len() == MODELS {
+            break;
+        }
         let cells = 1 + rng.below(14);
         let mut m = make(rng, cells);
         m.cap = u16::MAX;
@@ -71,10 +78,12 @@ fn chosen((_, make): Family, rng: &mut Rng) -> Vec<Vec<u8>> {
             continue;
         };
         let no_findings = bytes[2] == 0 && bytes[3] == 0;
-        if left[way] == 0 || (no_findings && way != 2 && !rng.one_in(8)) {
+        let full = left[way] == 0 && tried < TRIES;
+        if full || (no_findings && way != 2 && !rng.one_in(8)) {
             continue;
         }
-        left[way] -= 1;
+        left[way] = left[way].saturating_sub(1);
+        counts[way] += 1;
         entries.push(bytes);
     }
     entries
@@ -83,21 +92,22 @@ fn chosen((_, make): Family, rng: &mut Rng) -> Vec<Vec<u8>> {
 /// Writes the files part-0, part-1, .. into a folder.
 pub fn run(folder: &str, seed: u64) -> bool {
     let mut parts = vec![Vec::new()];
-    let mut models = 0;
+    let mut counts = [0; 3];
     for (place, family) in FAMILIES.iter().enumerate() {
         let rng = &mut Rng(seed ^ ((place as u64 + 1) << 40));
-        for bytes in chosen(*family, rng) {
+        for bytes in chosen(*family, rng, &mut counts) {
             if parts[parts.len() - 1].len() + bytes.len() > MOST_FILE {
                 parts.push(Vec::new());
             }
             parts.last_mut().unwrap().extend(bytes);
-            models += 1;
         }
     }
     for (number, part) in parts.iter().enumerate() {
         fs::write(format!("{folder}/part-{number}"), part).expect("a folder to write to");
     }
     let bytes: usize = parts.iter().map(Vec::len).sum();
-    println!("{models} models in {} files, {bytes} bytes", parts.len());
+    let [nodes, triples, none] = counts;
+    println!("by nodes {nodes}, by triples {triples}, no pairs sought {none}");
+    println!("{} files, {bytes} bytes", parts.len());
     true
 }
