@@ -5,6 +5,8 @@
  *
  * Before each call the lent work and findings are filled with 170, and that is not timed. After it the answer, the total and the lent
  * memory are compared with what is promised; the driver ends with 1 where something differs. */
+#include "lenoshale.h"
+
 #include <math.h>
 #include <stddef.h>
 #include <stdint.h>
@@ -12,11 +14,6 @@
 #include <stdlib.h>
 #include <string.h>
 #include <time.h>
-
-/* Crate capi. A slice is a pointer and a length. Answers 0 or a refusal's number; total and kept are written only where it is 0. */
-uint32_t lenoshale_check(const double *coords, size_t coords_len, const uint8_t *kinds, size_t kinds_len, const uint32_t *ends,
-                         size_t ends_len, const uint32_t *words, size_t words_len, double tolerance, uint8_t flags, uint32_t cap,
-                         uint8_t *findings, size_t findings_len, uint32_t *work, size_t work_len, uint64_t *total, uint64_t *kept);
 
 enum { TET4 = 1, HEX8 = 2, WEDGE6 = 3, PHED = 4 };
 enum { NODES = 65535, CELLS = 16384, WORDS = 262144, RING = 64, RECORDS = 65535, RECORD = 64, RUNS = 5, FILL = 170 };

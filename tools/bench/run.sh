@@ -8,5 +8,5 @@ cd "$(dirname "${BASH_SOURCE[0]}")/../.."
 lib=${LIB:-target/staticlib/libcapi.a}
 if [ -z "${LIB:-}" ]; then rt staticlib capi >&2; fi
 mkdir -p target/bench
-gcc -std=gnu11 -O2 -Wall -Wextra -o target/bench/bench tools/bench/bench.c "$lib" -lm
+gcc -std=gnu11 -O2 -Wall -Wextra -Iinclude -o target/bench/bench tools/bench/bench.c "$lib" -lm
 exec target/bench/bench "$@"

@@ -1,2 +1,7 @@
--- What the check's promise says of a number and two lent numbers.
-pub mod Exports
+-- From the promises of the operations to the exported ones.
+pub mod Told
+pub mod FileExports
+pub mod CheckExports
+pub mod RingExports
+pub mod NodeExports
+pub mod ReportExports

@@ -1,2 +1,7 @@
--- What the exported check promises.
-pub mod Exported
+-- What the exported operations promise.
+pub mod Written
+pub mod Files
+pub mod Checks
+pub mod FaceRings
+pub mod Nodes
+pub mod Reports

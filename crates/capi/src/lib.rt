@@ -1,9 +1,41 @@
-// The check for programs in C and Rust: a slice is a pointer and a length, an out-parameter a pointer.
+// The operations for programs in C and Rust: a slice is a pointer and a length, an out-parameter a pointer.
+// Each answers 0 or the refusal's number; at a refusal nothing is written.
 ghost use Rattle.mesh.specs.Model.{modelOf};
-ghost use Rattle.capi.specs.Exported.{Exported};
+ghost use Rattle.capi.specs.Checks.{WorkExport, CheckExport};
 use findings::CheckAnswer;
 
-// Checks a model. Answers 0 or the refusal's number; total and kept are written only where the answer is 0.
+mod model_files; // reading and writing a file
+mod face_rings; // ring lists, face owners, ring lookup
+mod nodes; // welding, area test, root
+mod reports; // the report's text, the whole run
+
+// The words of work that checking a model and filling its ring lists need, its ring words and its faces.
+#[no_mangle]
+pub extern "C" fn lenoshale_work_needed(
+    coords: &[f64],
+    kinds: &[u8],
+    ends: &[u32],
+    words: &[u32],
+    tol: f64,
+    flags: u8,
+    need: &mut u64,
+    rings: &mut u64,
+    faces: &mut u64,
+) -> u32
+    ensures { λ r. ⌜ WorkExport (modelOf (now (coords .entry)) (now (kinds .entry)) (now (ends .entry)) (now (words .entry)) tol flags 0) (now (need .entry)) (now (need .exit)) (now (rings .entry)) (now (rings .exit)) (now (faces .entry)) (now (faces .exit)) r ⌝ }
+{
+    let t = mesh::accept(coords, kinds, ends, words, tol, mesh::Checks(flags));
+    if t.refusal != 0 {
+        return t.refusal as u32;
+    }
+    let n = mesh::work_needed(t, kinds.len(), coords.len() / 3, words.len());
+    *need = n as u64;
+    *rings = t.words as u64;
+    *faces = t.faces as u64;
+    0
+}
+
+// Checks a model: the findings kept, their total and how many are kept.
 #[no_mangle]
 pub extern "C" fn lenoshale_check(
     coords: &[f64],
@@ -18,7 +50,7 @@ pub extern "C" fn lenoshale_check(
     total: &mut u64,
     kept: &mut u64,
 ) -> u32
-    ensures { λ r. ⌜ Exported (modelOf (now (coords .entry)) (now (kinds .entry)) (now (ends .entry)) (now (words .entry)) tol flags cap) (now (findings .entry)) (now (findings .exit)) (now (work .entry)) (now (work .exit)) (now (total .entry)) (now (total .exit)) (now (kept .entry)) (now (kept .exit)) r ⌝ }
+    ensures { λ r. ⌜ CheckExport (modelOf (now (coords .entry)) (now (kinds .entry)) (now (ends .entry)) (now (words .entry)) tol flags cap) (now (findings .entry)) (now (findings .exit)) (now (work .entry)) (now (work .exit)) (now (total .entry)) (now (total .exit)) (now (kept .entry)) (now (kept .exit)) r ⌝ }
 {
     let checks = mesh::Checks(flags);
     let a = conformance::check(coords, kinds, ends, words, tol, checks, cap, findings, work);

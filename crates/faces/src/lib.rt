@@ -137,7 +137,7 @@ fn find_cell(kinds: &[u8], ends: &[u32], words: &[u32], face: usize) -> Place
 }
 
 // Where a face's ring lies among all rings.
-fn find_ring(kinds: &[u8], ends: &[u32], words: &[u32], face: usize) -> Span
+pub fn find_ring(kinds: &[u8], ends: &[u32], words: &[u32], face: usize) -> Span
     requires { ⌜ Sound (now kinds) (now ends) (now words) × (face < length (ringsIn (now kinds) (now ends) (now words))) ⌝ }
     ensures { λ r. ⌜ SpanIn (ringsIn (now (kinds .entry)) (now (ends .entry)) (now (words .entry))) face r × (r .start < 4294967296) ⌝ }
 {

@@ -3,7 +3,7 @@ use borrow.Author.Needs.{needs}
 use Rattle.capi.proofs.lenoshale_check.Statement.{statement}
 use Rattle.capi.proofs.lenoshale_check.Tie as tie
 use Rattle.mesh.specs.Model.{modelOf}
-use Rattle.capi.proofs.Exports.{refused-so, report-so}
+use Rattle.capi.proofs.CheckExports.{refused-so, report-so}
 
 check-requires : tie.Need-check-requires
 check-requires c κs = search needs

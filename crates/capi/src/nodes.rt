@@ -1,0 +1,73 @@
+// Welded numbers, the area test and the root.
+ghost use mathlib.Core.Path.{_≡_};
+ghost use Rattle.area.specs.AreaTest.{areaNumber};
+ghost use Rattle.capi.specs.Nodes.{WeldExport, AreaExport, RootExport};
+use area::Area;
+use area::AreaAnswer;
+use floats::Rooted;
+use snap::WeldAnswer;
+
+// Welds all nodes: the map gets their welded numbers.
+#[no_mangle]
+pub extern "C" fn lenoshale_weld(
+    coords: &[f64],
+    tol: f64,
+    map: &mut [u32],
+    scratch: &mut [u32],
+) -> u32
+    ensures { λ r. ⌜ WeldExport (now (coords .entry)) tol (now (map .entry)) (now (map .exit)) (now (scratch .entry)) (now (scratch .exit)) r ⌝ }
+{
+    let a = snap::weld(coords, tol, map, scratch);
+    match a {
+        WeldAnswer::Refused(n) => n as u32,
+        WeldAnswer::Filled => 0,
+    }
+}
+
+// The number of what the area test says.
+fn area_number(a: Area) -> u32
+    ensures { λ r. ⌜ r ≡ areaNumber a ⌝ }
+{
+    match a {
+        Area::TooFew => 0,
+        Area::Together => 1,
+        Area::NoDirection => 2,
+        Area::Thin => 3,
+        Area::Spans => 4,
+    }
+}
+
+// The area test on nodes.
+#[no_mangle]
+pub extern "C" fn lenoshale_area_test(
+    coords: &[f64],
+    nodes: &[u32],
+    tol: f64,
+    says: &mut u32,
+) -> u32
+    ensures { λ r. ⌜ AreaExport (now (coords .entry)) (now (nodes .entry)) tol (now (says .entry)) (now (says .exit)) r ⌝ }
+{
+    let a = area::area_test(coords, nodes, tol);
+    match a {
+        AreaAnswer::Refused(n) => n as u32,
+        AreaAnswer::Says(s) => {
+            *says = area_number(s);
+            0
+        }
+    }
+}
+
+// The root of x.
+#[no_mangle]
+pub extern "C" fn lenoshale_root(x: f64, root: &mut f64) -> u32
+    ensures { λ r. ⌜ RootExport x (now (root .entry)) (now (root .exit)) r ⌝ }
+{
+    let a = floats::root(x);
+    match a {
+        Rooted::Refused => 13,
+        Rooted::Value(v) => {
+            *root = v;
+            0
+        }
+    }
+}
