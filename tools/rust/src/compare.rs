@@ -5,16 +5,21 @@ use std::time::Instant;
 use crate::families::FAMILIES;
 use crate::finding::{Finding, difference, reported};
 use crate::generate;
+use crate::handed;
 use crate::mesh::UMeshView;
 use crate::model::Model;
+use crate::others;
 use crate::ours;
-use crate::reference::{ConformanceChecks, ConformanceOptions, is_conform_with};
+use crate::reference::{ConformanceChecks, ConformanceOptions, ConformanceReport, is_conform_with};
 use crate::rng::Rng;
 use crate::way::{self, Figures, Way};
 
 /// Forcing a way is left out where its figure is over this: it would take minutes or much memory.
 const NODE_WORK_MOST: usize = 20_000_000;
 const TRIPLE_WORK_MOST: usize = 4_000_000;
+
+/// Roots that are compared with the machine's.
+const ROOTS: usize = 1_000_000;
 
 /// The largest models, and random ones of some thousands of cells.
 const LARGE: [&str; 14] = [
@@ -34,16 +39,14 @@ const LARGE: [&str; 14] = [
     "soup8 4000 200",
 ];
 
-/// The reference's findings by a way, its figures where it was asked for a way and sought pairs.
-pub fn reference(m: &Model, by: Way) -> (Vec<Finding>, Option<Figures>) {
-    let mesh = UMeshView::new(m);
+/// The reference's report by a way, and its figures where it was asked for a way and sought pairs.
+pub fn reference(mesh: &UMeshView, m: &Model, by: Way) -> (ConformanceReport, Option<Figures>) {
     let checks = ConformanceChecks::from_bits_truncate(m.flags);
     let options = ConformanceOptions::new(checks).with_max_issues(None);
     way::set(by);
-    let report = is_conform_with(&mesh, m.tolerance, options).expect("a sound tolerance");
-    let found = reported(&mesh, &report);
-    assert!(report.n_issues == found.len());
-    (found, way::figures())
+    let report = is_conform_with(mesh, m.tolerance, options).expect("a sound tolerance");
+    assert!(report.n_issues == report.issues.len());
+    (report, way::figures())
 }
 
 /// Counts of a family.
@@ -57,6 +60,8 @@ struct Tally {
     by_nodes: usize,
     by_triples: usize,
     forced: usize,
+    owners: usize,
+    areas: usize,
 }
 
 impl Tally {
@@ -71,6 +76,19 @@ impl Tally {
         self.by_nodes += other.by_nodes;
         self.by_triples += other.by_triples;
         self.forced += other.forced;
+        self.owners += other.owners;
+        self.areas += other.areas;
+    }
+
+    /// Counts the way that the source takes; the other one, and whether it can be forced.
+    fn other_way(&mut self, f: Figures) -> (Way, bool) {
+        if f.own() == Way::Nodes {
+            self.by_nodes += 1;
+            (Way::Triples, f.triple_work <= TRIPLE_WORK_MOST)
+        } else {
+            self.by_triples += 1;
+            (Way::Nodes, f.node_work <= NODE_WORK_MOST)
+        }
     }
 
     fn print(&self, name: &str) {
@@ -100,30 +118,29 @@ fn print_head() {
 
 /// Everything that is compared on a model; what differs.
 fn compared(m: &Model, rng: &mut Rng, t: &mut Tally) -> Result<(), String> {
+    let mut mesh = UMeshView::new(m);
+    mesh.handed = Some(handed::of(m, &mesh, rng)?);
+    others::file(m)?;
+    t.areas += others::area(m, &mesh, rng)?;
     let ours = ours::findings(m, rng)?;
     for f in &ours {
         t.kinds[f.kind as usize - 1] += 1;
     }
     let tied = |w: &&[Finding]| w[0].kind == 2 && w[1].kind == 2 && w[0].first == w[1].first;
     t.ties += ours.windows(2).filter(tied).count();
-    let agree = |by: Way| match reference(m, by) {
-        (theirs, figures) => match difference(&ours, &theirs) {
+    let agree = |by: Way| {
+        let (report, figures) = reference(&mesh, m, by);
+        match difference(&ours, &reported(&mesh, &report)) {
             Some(text) => Err(format!("{by:?}: {text}")),
-            None => Ok(figures),
-        },
+            None => Ok((report, figures)),
+        }
     };
-    agree(Way::Unhooked)?;
-    let Some(figures) = agree(Way::Seen)? else {
-        return Ok(());
-    };
-    let (other, within) = if figures.own() == Way::Nodes {
-        t.by_nodes += 1;
-        (Way::Triples, figures.triple_work <= TRIPLE_WORK_MOST)
-    } else {
-        t.by_triples += 1;
-        (Way::Nodes, figures.node_work <= NODE_WORK_MOST)
-    };
-    if within {
+    let (report, _) = agree(Way::Unhooked)?;
+    t.owners += others::face_owners(m, &ours, &mesh, &report)?;
+    let (_, figures) = agree(Way::Seen)?;
+    if let Some((other, within)) = figures.map(|f| t.other_way(f))
+        && within
+    {
         agree(other)?;
         t.forced += 1;
     }
@@ -201,7 +218,13 @@ pub fn run(seed: u64, models: usize) -> bool {
     whole.add(&large(seed));
     whole.add(&at_limits(seed));
     whole.print("all");
+    let roots = others::roots(seed, ROOTS);
+    println!("{ROOTS} roots: {roots} differ");
+    println!(
+        "{} area tests and {} lists of owners compared",
+        whole.areas, whole.owners
+    );
     println!("{} s", start.elapsed().as_secs());
     println!("{} models: {} agree", whole.models, whole.agree);
-    whole.models == whole.agree
+    whole.models == whole.agree && roots == 0
 }

@@ -5,10 +5,13 @@ mod families;
 mod finding;
 mod fx;
 mod generate;
+mod handed;
+#[allow(dead_code)]
 mod lenoshale;
 mod mesh;
 mod model;
 mod nd;
+mod others;
 mod ours;
 mod record;
 #[allow(dead_code)]

@@ -8,7 +8,9 @@ use std::fs;
 
 use crate::compare::reference;
 use crate::families::{FAMILIES, Family};
-use crate::finding::{Finding, difference};
+use crate::finding::{Finding, difference, reported};
+use crate::handed;
+use crate::mesh::UMeshView;
 use crate::model::Model;
 use crate::ours;
 use crate::rng::Rng;
@@ -42,8 +44,11 @@ fn entry(m: &Model, rng: &mut Rng) -> Option<(Vec<u8>, usize)> {
     if file.len() > MOST_BYTES {
         return None;
     }
-    let (theirs, _) = reference(m, Way::Unhooked);
-    let (_, figures) = reference(m, Way::Seen);
+    let mut mesh = UMeshView::new(m);
+    mesh.handed = Some(handed::of(m, &mesh, rng).expect("rings and map that agree"));
+    let (report, _) = reference(&mesh, m, Way::Unhooked);
+    let theirs = reported(&mesh, &report);
+    let (_, figures) = reference(&mesh, m, Way::Seen);
     if theirs.len() > MOST_FINDINGS {
         return None;
     }

@@ -68,6 +68,24 @@ pub fn made(mesh: &UMeshView, tol: f64) -> Handed {
     }
 }
 
+/// Whether nodes pass the area test.
+pub fn spans(mesh: &UMeshView, nodes: &[u32], tol: f64) -> bool {
+    let nodes: Vec<usize> = nodes.iter().map(|&n| n as usize).collect();
+    common_nodes_span_area(&mesh.coords(), &nodes, tol)
+}
+
+/// The owners of every overfull face of a report, and the bits of its centre.
+pub fn owners(mesh: &UMeshView, report: &ConformanceReport) -> Vec<(Vec<u32>, [u64; 3])> {
+    let numbers = |cells: &[ElementId]| cells.iter().map(|&c| mesh.cell_number(c) as u32).collect();
+    let mut lists = Vec::new();
+    for issue in &report.issues {
+        if let ConformanceIssue::OverlappingFaces { center, cells } = issue {
+            lists.push((numbers(cells), center.map(f64::to_bits)));
+        }
+    }
+    lists
+}
+
 pub use entry::is_conform_with;
 
 /// The entry: the names it calls are the ones below.

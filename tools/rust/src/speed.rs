@@ -23,6 +23,15 @@ const MODELS: [[&str; 2]; 9] = [
     ["soup8 10000 200", "soup8 2500 200"],
 ];
 
+/// Models whose files are read and written.
+const FILES: [&str; 5] = [
+    "grid 16 16 64",
+    "tets 13 14 15",
+    "hub 12945",
+    "isolated 8191",
+    "prisms 60 600",
+];
+
 /// No further run of a model is begun after so many seconds.
 const MOST_SECONDS: f64 = 8.0;
 
@@ -103,6 +112,55 @@ fn print_line(name: &str, t: &Times) {
     print!(" {:>10.2} {:>8.2}", t.fresh, t.fresh / t.rust);
 }
 
+/// Reading and writing a model's file and copying its bytes: best milliseconds of each.
+fn measure_file(m: &Model, runs: usize) -> [f64; 3] {
+    let bytes = m.write();
+    let mut copy = vec![0; bytes.len()];
+    let mut read = m.clone();
+    let mut best = [f64::INFINITY; 3];
+    for _ in 0..runs {
+        let took = [
+            milliseconds(|| copy.copy_from_slice(black_box(&bytes))),
+            milliseconds(|| {
+                let lists = (
+                    &mut read.coords,
+                    &mut read.kinds,
+                    &mut read.ends,
+                    &mut read.words,
+                );
+                lenoshale::read(&bytes, lists.0, lists.1, lists.2, lists.3).expect("a good file");
+            }),
+            milliseconds(|| {
+                lenoshale::write(m.lent(), m.cap, &mut copy).expect("an accepted model");
+            }),
+        ];
+        for (b, t) in best.iter_mut().zip(took) {
+            *b = b.min(t);
+        }
+    }
+    assert!(copy == bytes && read.write() == bytes);
+    best
+}
+
+/// Files against memcpy; a ratio of 0.5 is half of memcpy's speed.
+fn print_files(runs: usize) {
+    print!("{:<17} {:>8} {:>10}", "file", "bytes", "memcpy ms");
+    println!(
+        " {:>10} {:>8} {:>10} {:>8}",
+        "read ms", "ratio", "write ms", "ratio"
+    );
+    for name in FILES {
+        let m = generate::model(name).expect("a model within the limits");
+        let [copy, read, write] = measure_file(&m, runs);
+        print!("{name:<17} {:>8} {copy:>10.3}", m.write().len());
+        println!(
+            " {read:>10.3} {:>8.2} {write:>10.3} {:>8.2}",
+            copy / read,
+            copy / write
+        );
+    }
+}
+
 /// Prints a line for each model; the growth is 1 where time grows as the cells do.
 pub fn run(runs: usize) -> bool {
     way::set(Way::Unhooked);
@@ -120,5 +178,6 @@ pub fn run(runs: usize) -> bool {
         let growth = [whole.rust / part.rust, whole.ours / part.ours].map(|g| g / times);
         println!(" {:>12.2} {:>12.2}", growth[0], growth[1]);
     }
+    print_files(10 * runs);
     true
 }
