@@ -29,6 +29,7 @@ pub fn model(text: &str) -> Option<Model> {
         ("same", &[sides, n]) => same(sides, n),
         ("soup4", &[n, nodes]) => soup(1, 4, n, nodes),
         ("soup8", &[n, nodes]) => soup(2, 8, n, nodes),
+        ("rings6", &[n, nodes]) => soup(4, 6, n, nodes),
         _ => return None,
     };
     model.sort_kinds();

@@ -11,7 +11,7 @@ use crate::reference::{ConformanceChecks, ConformanceOptions, is_conform_with};
 use crate::way::{self, Way};
 
 /// A model and one of about a quarter of its cells.
-const MODELS: [[&str; 2]; 9] = [
+const MODELS: [[&str; 2]; 11] = [
     ["grid 16 16 64", "grid 16 16 16"],
     ["tets 13 14 15", "tets 7 7 14"],
     ["wedges 16 16 32", "wedges 16 16 8"],
@@ -21,6 +21,8 @@ const MODELS: [[&str; 2]; 9] = [
     ["same 20 1000", "same 20 250"],
     ["soup4 16384 60", "soup4 4096 60"],
     ["soup8 10000 200", "soup8 2500 200"],
+    ["rings6 16000 300", "rings6 4000 300"],
+    ["rings6 16000 3000", "rings6 4000 3000"],
 ];
 
 /// Models whose files are read and written.
