@@ -123,18 +123,7 @@ pub fn keep_pairs(
     let mut k = n;
     let mut c = 0;
     while c < cells {
-        k = partially_shared::keep_partly(
-            coords,
-            tol,
-            work,
-            l,
-            by,
-            c,
-            by_nodes,
-            findings,
-            room,
-            k,
-        );
+        k = partially_shared::keep_partly(coords, tol, work, l, by, c, by_nodes, findings, room, k);
         c += 1;
     }
     k

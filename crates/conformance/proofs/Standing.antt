@@ -3,7 +3,7 @@ use Prim.Native.Nat.{ℕ, suc, _+_, _-_, _≤_, _<_}
 use mathlib.Core.Path.{_≡_, sym, ap, _∙_, subst}
 use mathlib.Core.List.{List, _++_}
 use native.Mathlib.Omega.{arith}
-use lib.ListN.{length, getD, take, drop, replicate}
+use lib.ListN.{length, getD, take, drop}
 use lib.Seq.{length-sets, length-take-le, take-take, drop-drop, getD-take}
 use Rattle.laws.specs.Merging.{region}
 use Rattle.laws.proofs.Stores.{take-before, region-after, region-take}

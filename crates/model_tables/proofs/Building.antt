@@ -222,11 +222,11 @@ module _ (m : Model) (ok : modelRefusal m ≡ 0) where
           let end : l .spare + 2 * M ≤ length w = le-trans room enough in
           record {
             tabled = record {
-            faced = faced (m .coords) (m .tolerance) cells M K l t s rings-in faces-in (length-take-le (l .at .offsets) w (tables-in (length w) end)) size;
-            room = roomy (length w) end size;
-            spaced = spaced (length w) end size;
-            unmarked = k .unmarked;
-            fresh = k .fresh;
+              faced = faced (m .coords) (m .tolerance) cells M K l t s rings-in faces-in (length-take-le (l .at .offsets) w (tables-in (length w) end)) size;
+              room = roomy (length w) end size;
+              spaced = spaced (length w) end size;
+              unmarked = k .unmarked;
+              fresh = k .fresh;
             };
             shows = shows;
           }

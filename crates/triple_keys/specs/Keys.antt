@@ -5,7 +5,7 @@ use mathlib.Core.Path.{_≡_}
 use lib.Dec.{leb}
 use Rattle.laws.specs.Lists.{add}
 use Rattle.index.specs.declared.Places.{Places}
-use Rattle.index.specs.Faces.{input, base, nodesOf, Indexed}
+use Rattle.index.specs.Faces.{input, nodesOf, Indexed}
 
 -- the number of a node triple: one of B behind the N nodes; unlike triples may have the same
 unfoldable pub tripleKey : (N B a b c : ℕ) → ℕ

@@ -14,9 +14,9 @@ use Rattle.laws.proofs.Ascending.{Asc, elem-add, asc-add, head-in, later-in}
 use Rattle.laws.proofs.Tests.{tested, or-cases, or-swap}
 use Rattle.laws.proofs.Stores.{region-same, sets-self, sets-over, length-region}
 use Rattle.index.specs.declared.Places.{Places}
-use Rattle.index.specs.Faces.{input, base}
+use Rattle.index.specs.Faces.{base}
 use Rattle.seek.specs.Candidates.{Ready}
-use Rattle.seek.proofs.Searching.{base-same, input-same, ready-same}
+use Rattle.seek.proofs.Searching.{base-same, ready-same}
 use Rattle.triples.specs.Hits.{addAll, listed, Open, Added}
 
 -- the members are those added and those there
@@ -143,10 +143,6 @@ module _ (p : Places) (lo n : ℕ) (w : List ℕ) (op : Open p lo n w) (all : Li
     -- what is read stays
     pub prog-base : base p v ≡ base p w
     prog-base = ap (base p) (g .added .filled) ∙ base-same p w (addAll (g .done) (listed p n w))
-
-    -- and the input
-    pub prog-input : input p v ≡ input p w
-    prog-input = ap (input p) (g .added .filled) ∙ input-same p w (addAll (g .done) (listed p n w)) (op .ready .below)
 
     -- and the length
     pub prog-length : length v ≡ length w

@@ -1,17 +1,17 @@
 -- The lists that a search walks hold every candidate, so what it adds are the candidates.
 use Prim.Native.Nat.{ℕ, suc, _+_, _-_, _≤_, _<_}
-use mathlib.Core.Path.{_≡_, refl, sym, ap, ap₂, _∙_, subst}
+use mathlib.Core.Path.{_≡_, refl, sym, ap, ap₂, _∙_}
 use mathlib.Core.Logic.{_⊎_, inl, inr}
 use mathlib.Core.Bool.{Bool, true, false, _&&_, _||_, or-false, and-false}
 use mathlib.Core.List.{List, [], _∷_, _++_}
 use native.Mathlib.Omega.{arith}
-use borrow.Author.Tests.{ltb-true, leb-true, le-leb, leb-false}
-use lib.Dec.{leb, ltb, eqb, leb·suc-suc, leb·suc-zero, leb·zero}
+use borrow.Author.Tests.{ltb-true, leb-true}
+use lib.Dec.{leb, ltb, eqb}
 use lib.ListN.{length, length-append, getD}
-use Rattle.laws.specs.Lists.{onlyIf, any, each, keep, upFrom, elem}
+use Rattle.laws.specs.Lists.{any, each, keep, upFrom, elem}
 use Rattle.laws.specs.Merging.{region}
 use Rattle.laws.proofs.ListLaws.{any-append, keep-append}
-use Rattle.laws.proofs.Tests.{tested, and-parts, clash}
+use Rattle.laws.proofs.Tests.{tested, and-parts}
 use Rattle.laws.proofs.Stores.{region-add}
 use Rattle.laws.proofs.Ascending.{elem-keep, asc-keep, asc-upFrom, asc-ext, elem-upFrom}
 use Rattle.index.specs.declared.Places.{Places}
@@ -20,11 +20,9 @@ use Rattle.merge.specs.Runs.{rest}
 use Rattle.seek.specs.Candidates.{common, shares, candidates}
 use Rattle.seek.specs.Steps.{early}
 use Rattle.seek.proofs.Condition.{shares-early}
-use Rattle.triple_keys.specs.Keys.{keysOf}
 use Rattle.triples.specs.Hits.{hitsBy, addAll}
 use Rattle.triples.proofs.Adds.{elem-addAll, asc-addAll}
 use Rattle.triples.proofs.Turns.{rest-cons}
-use Rattle.triples.proofs.ShareKey.{Short, share-key}
 
 -- ---- all but two of a list
 

@@ -1,12 +1,12 @@
 -- What the two searches find: the candidates.
 use Prim.Native.Nat.{ℕ, _+_, _-_, _≤_, _<_}
 use mathlib.Core.Path.{_≡_, refl, sym, ap, ap₂, _∙_, subst}
-use mathlib.Core.Logic.{_⊎_, inl, inr, ⊎-elim}
+use mathlib.Core.Logic.{_⊎_, inl, inr}
 use mathlib.Core.Bool.{Bool, true, false, _||_, false≢true}
 use mathlib.Core.List.{List, [], _∷_, _++_}
 use native.Mathlib.Omega.{arith}
 use lib.ListN.{length, getD}
-use lib.Seq.{sets, length-take-le}
+use lib.Seq.{sets}
 use Rattle.laws.specs.Lists.{any, each, keep, upFrom, elem}
 use Rattle.laws.specs.Merging.{region}
 use Rattle.laws.proofs.ListLaws.{any-append, each-append, keep-length}

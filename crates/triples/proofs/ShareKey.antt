@@ -7,7 +7,7 @@ use mathlib.Core.List.{List, [], _∷_}
 use native.Mathlib.Omega.{arith}
 use borrow.Author.Tests.{eqb-true}
 use lib.Dec.{leb, eqb}
-use lib.ListN.{length, getD, drop}
+use lib.ListN.{length, getD}
 use Rattle.laws.specs.Lists.{any, keep, elem, add}
 use Rattle.laws.proofs.Tests.{tested, both-ways, or-cases, and-parts, eqb-self}
 use Rattle.laws.proofs.ListLaws.{keep-length}

@@ -22,7 +22,7 @@ use Rattle.merge.specs.Runs.{rest}
 use Rattle.seek.specs.Candidates.{shares}
 use Rattle.seek.proofs.Merging.{all-of}
 use Rattle.triples.specs.Hits.{hitsBy, Open, Added}
-use Rattle.triples.proofs.Adds.{Faces, Prog, prog-start, prog-open, prog-base, prog-input, prog-length, prog-step, prog-end}
+use Rattle.triples.proofs.Adds.{Faces, Prog, prog-start, prog-open, prog-base, prog-length, prog-step, prog-end}
 
 -- the words from i on begin with word i
 pub rest-cons : (i e : ℕ) (b : List ℕ) → i < e → e ≤ length b → rest i e b ≡ getD b i 0 ∷ rest (i + 1) e b
@@ -90,10 +90,6 @@ module _ (p : Places) (lo n : ℕ) (w : List ℕ) (op : Open p lo n w) (s e : �
     -- what is read stays
     pub held-base : base p v ≡ base p w
     held-base = prog-base p lo n w op (G (rest s e B)) f (G (rest i e B)) r v h
-
-    -- and the input
-    pub held-input : input p v ≡ input p w
-    held-input = prog-input p lo n w op (G (rest s e B)) f (G (rest i e B)) r v h
 
     -- and the length
     pub held-length : length v ≡ length w

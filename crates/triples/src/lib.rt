@@ -1,11 +1,12 @@
 // Candidates of a face, by node triples.
 ghost use mathlib.Core.Path.{_≡_};
-ghost use mathlib.Core.List.{[], _∷_, _++_};
+ghost use mathlib.Core.List.{[], _∷_};
 ghost use Prim.Native.Nat.{ℕ, _+_, _≤_, _<_};
 ghost use lib.Dec.{leb};
 ghost use lib.ListN.{length, getD};
 ghost use Rattle.laws.specs.Lists.{onlyIf, each, keep};
 ghost use Rattle.laws.specs.Merging.{region};
+ghost use Rattle.laws.proofs.Ascending.{Asc};
 ghost use Rattle.counting.specs.Counts.{times};
 ghost use Rattle.index.specs.Faces.{input, base, nodesOf, wordsOf, Indexed};
 ghost use Rattle.merge.specs.Runs.{rest};
@@ -21,22 +22,34 @@ pub struct Two {
     pub y: usize,
 }
 
-// Three or more of the k words from s on stand among the j from t on.
+// Three or more of the k ascending words from s on stand among the j ascending ones from t on: both are gone through together.
 fn has_three(base: &[u32], s: usize, k: usize, t: usize, j: usize) -> bool
     requires { ⌜ (s + k ≤ length (now base)) × (t + j ≤ length (now base)) ⌝ }
+    requires { ⌜ Asc (region s k (now base)) × Asc (region t j (now base)) ⌝ }
     ensures { λ r. ⌜ r ≡ leb 3 (length (common (region s k (now (base .entry))) (region t j (now (base .entry))))) ⌝ }
 {
     let mut n: usize = 0;
     let mut i = 0;
+    let mut m = 0;
     while i < k {
-        if ascending::has(base, t, j, base[s + i]) {
-            if n == 2 {
-                return true;
-            }
-            n += 1;
+        if j <= m {
+            return false;
+        }
+        let a = base[s + i];
+        let b = base[t + m];
+        if a < b {
             i += 1;
         } else {
-            i += 1;
+            if b < a {
+                m += 1;
+            } else {
+                if n == 2 {
+                    return true;
+                }
+                n += 1;
+                i += 1;
+                m += 1;
+            }
         }
     }
     false

@@ -1,5 +1,4 @@
 -- `conformance::index_faces` meets its contract. The tables stand after either index (Standing).
-use Prim.Native.Nat.{_+_}
 use mathlib.Core.Path.{_∙_}
 use native.Mathlib.Omega.{arith}
 use borrow.Author.Needs.{needs}
@@ -19,10 +18,13 @@ index-keys-requires c κs =
     let l = b .args .l in
     let x = c .before .before .before .before .prepare in
     let s = stands l (b .args .work .now) (b .pre) (x .last .0) (x .ensures .1 .0) in
-    let p = s .spaced in
-    (s .indexed,
-    ((p .second-at, p .second-ends, omega (arith, p .marks-at, p .others-at, p .last-at, p .pairs-at, p .spare-at, p .ends)),
-    (omega arith, omega (arith, p .few-total), p .few-nodes, p .few-faces, p .few-words, p .few-below)))
+    let p = s .spaced in (
+      s .indexed,
+      (
+        (p .second-at, p .second-ends, omega (arith, p .marks-at, p .others-at, p .last-at, p .pairs-at, p .spare-at, p .ends)),
+        (omega arith, omega (arith, p .few-total), p .few-nodes, p .few-faces, p .few-words, p .few-below),
+      ),
+    )
 
 same-length : tie.Need-same-length
 same-length c = search needs
@@ -35,10 +37,13 @@ returns c =
     let x = c .before .before .before .before .before .before .before .prepare in
     let y = c .before .before .index-keys in
     let s = stands l w (b .pre) (x .last .0) (x .ensures .1 .0) in
-    let same = y .ensures .1 in
-    (x .ensures .0,
-    ((stands-on l (x .last .0) (y .last .0) s (same .0) (same .1) (same .2), y .ensures .0),
-    second-input l (x .last .0) (y .last .0) s (same .0) (same .1) (same .2) ∙ indexed-input l w (b .pre) (x .last .0) (x .ensures .1 .0)))
+    let same = y .ensures .1 in (
+      x .ensures .0,
+      (
+        (stands-on l (x .last .0) (y .last .0) s (same .0) (same .1) (same .2), y .ensures .0),
+        second-input l (x .last .0) (y .last .0) s (same .0) (same .1) (same .2) ∙ indexed-input l w (b .pre) (x .last .0) (x .ensures .1 .0),
+      ),
+    )
 
 pub index-faces-spec : {M : Type 1} → statement M
 index-faces-spec =

@@ -1,7 +1,7 @@
 -- `triples::consider` meets its contract. A hit is inserted, and there is room for it, since the list stays ascending and below the number of faces.
 use Prim.Native.Nat.{ℕ, _+_, _≤_, _<_}
 use mathlib.Core.Path.{_≡_, sym, ap, _∙_, subst}
-use mathlib.Core.List.{List, [], _∷_}
+use mathlib.Core.List.{[], _∷_}
 use mathlib.Core.Bool.{true, false, or-false}
 use native.Mathlib.Omega.{arith}
 use borrow.Author.Needs.{needs}

@@ -105,12 +105,15 @@ walk-rare-requires c κs =
     let x = c .before .before .before .before .before .set-start in
     let n = c .before .before .before .set-size in
     let r = b .pre .0 in
-    let at = nodes-at (a .at) (base (a .at) w) (a .lo) (x .result) (n .result) (x .ensures) (n .ensures) in
-    (none-open (a .at) (a .lo) w r,
-    (self-beside (a .at) (base (a .at) w) (r .indexed),
-    omega (arith, c .before .before .if2 .left),
-    omega (arith, nodes-fit (a .at) (base (a .at) w) (r .indexed) (a .lo) (x .result) (x .result + n .result) (r .face) at, long b),
-    nodes-known (a .at) (base (a .at) w) (r .indexed) (a .lo) (x .result) (x .result + n .result) (r .face) at))
+    let at = nodes-at (a .at) (base (a .at) w) (a .lo) (x .result) (n .result) (x .ensures) (n .ensures) in (
+      none-open (a .at) (a .lo) w r,
+      (
+        self-beside (a .at) (base (a .at) w) (r .indexed),
+        omega (arith, c .before .before .if2 .left),
+        omega (arith, nodes-fit (a .at) (base (a .at) w) (r .indexed) (a .lo) (x .result) (x .result + n .result) (r .face) at, long b),
+        nodes-known (a .at) (base (a .at) w) (r .indexed) (a .lo) (x .result) (x .result + n .result) (r .face) at,
+      ),
+    )
 
 same-length-4 : tie.Need-same-length-4
 same-length-4 c = search needs

@@ -1,6 +1,6 @@
 -- `triples::seek_short` meets its contract. Its keys, then its nodes but two (`short-sought`).
-use Prim.Native.Nat.{ℕ, _+_, _≤_, _<_}
-use mathlib.Core.Path.{_≡_, sym, ap, _∙_}
+use Prim.Native.Nat.{ℕ, _+_, _<_}
+use mathlib.Core.Path.{_≡_, sym, ap}
 use mathlib.Core.List.{List}
 use native.Mathlib.Omega.{arith}
 use borrow.Author.Needs.{needs}
@@ -55,11 +55,14 @@ walk-keys-requires c κs =
     let w = a .work .now in
     let x = c .before .before .before .set-start in
     let n = c .before .set-size in
-    let keys = nodes-at (a .by) (base (a .at) w) (a .lo) (x .result) (n .result) (x .ensures) (n .ensures) in
-    (none-open (a .at) (a .lo) w (b .pre .0 .0),
-    (keyed-beside (a .at) (a .by) (base (a .at) w) (b .pre .0 .1),
-    omega (arith, nodes-fit (a .by) (base (a .at) w) (b .pre .0 .1 .indexed) (a .lo) (x .result) (x .result + n .result) (lo-face b) keys, long b),
-    nodes-known (a .by) (base (a .at) w) (b .pre .0 .1 .indexed) (a .lo) (x .result) (x .result + n .result) (lo-face b) keys))
+    let keys = nodes-at (a .by) (base (a .at) w) (a .lo) (x .result) (n .result) (x .ensures) (n .ensures) in (
+      none-open (a .at) (a .lo) w (b .pre .0 .0),
+      (
+        keyed-beside (a .at) (a .by) (base (a .at) w) (b .pre .0 .1),
+        omega (arith, nodes-fit (a .by) (base (a .at) w) (b .pre .0 .1 .indexed) (a .lo) (x .result) (x .result + n .result) (lo-face b) keys, long b),
+        nodes-known (a .by) (base (a .at) w) (b .pre .0 .1 .indexed) (a .lo) (x .result) (x .result + n .result) (lo-face b) keys,
+      ),
+    )
 
 walk-rare-requires : tie.Need-walk-rare-requires
 walk-rare-requires c κs =
@@ -74,12 +77,15 @@ walk-rare-requires c κs =
     let op = none-open (a .at) (a .lo) w r in
     let bs = keyed-beside (a .at) (a .by) (base (a .at) w) (b .pre .0 .1) in
     let e = x .result + n .result in
-    let same = step-base (a .at) (a .by) (a .lo) 0 w op bs (x .result) e (k .result) (k .last .0) (k .ensures) in
-    (step-open (a .at) (a .by) (a .lo) 0 w op bs (x .result) e (k .result) (k .last .0) (k .ensures),
-    (step-beside (a .at) (a .by) (a .lo) 0 w op bs (x .result) e (k .result) (k .last .0) (k .ensures) (a .by) bs,
-    omega (arith, b .pre .1 .1),
-    omega (arith, nodes-fit (a .at) (base (a .at) w) (r .indexed) (a .lo) (a .s) (a .e) (r .face) (b .pre .1 .0), long b),
-    λ i h l. omega (arith, ap (λ (z : List ℕ). getD z i 0) same, nodes-known (a .at) (base (a .at) w) (r .indexed) (a .lo) (a .s) (a .e) (r .face) (b .pre .1 .0) i h l, b .pre .0 .1 .nodes)))
+    let same = step-base (a .at) (a .by) (a .lo) 0 w op bs (x .result) e (k .result) (k .last .0) (k .ensures) in (
+      step-open (a .at) (a .by) (a .lo) 0 w op bs (x .result) e (k .result) (k .last .0) (k .ensures),
+      (
+        step-beside (a .at) (a .by) (a .lo) 0 w op bs (x .result) e (k .result) (k .last .0) (k .ensures) (a .by) bs,
+        omega (arith, b .pre .1 .1),
+        omega (arith, nodes-fit (a .at) (base (a .at) w) (r .indexed) (a .lo) (a .s) (a .e) (r .face) (b .pre .1 .0), long b),
+        λ i h l. omega (arith, ap (λ (z : List ℕ). getD z i 0) same, nodes-known (a .at) (base (a .at) w) (r .indexed) (a .lo) (a .s) (a .e) (r .face) (b .pre .1 .0) i h l, b .pre .0 .1 .nodes),
+      ),
+    )
 
 same-length : tie.Need-same-length
 same-length c = search needs

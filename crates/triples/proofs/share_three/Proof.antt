@@ -1,9 +1,10 @@
 -- `triples::share_three` meets its contract. The words that `has_three` is given are the two node sets.
 use Prim.Native.Nat.{ℕ}
-use mathlib.Core.Path.{ap₂, _∙_}
+use mathlib.Core.Path.{sym, ap₂, _∙_, subst}
 use native.Mathlib.Omega.{arith}
 use borrow.Author.Needs.{needs}
 use Rattle.laws.specs.Merging.{region}
+use Rattle.laws.proofs.Ascending.{Asc}
 use mathlib.Core.List.{List}
 use lib.Dec.{leb}
 use lib.ListN.{length}
@@ -26,10 +27,18 @@ set-size-requires-2 c κs = search needs
 
 has-three-requires : tie.Need-has-three-requires
 has-three-requires c κs =
-    let a = c .before .before .before .before .before .args in
-    let q = c .before .before .before .before .before .pre in (
-      omega (arith, c .before .before .before .set-start .ensures, c .before .before .set-size .ensures, set-fits (a .at) (a .base .now) (q .0) (a .lo) (q .1 .0)),
-      omega (arith, c .before .set-start2 .ensures, c .set-size2 .ensures, set-fits (a .at) (a .base .now) (q .0) (a .g) (q .1 .1)),
+    let b = c .before .before .before .before .before in
+    let a = b .args in
+    let q = b .pre in
+    let x = c .before .before .before .set-start .ensures in
+    let n = c .before .before .set-size .ensures in
+    let y = c .before .set-start2 .ensures in
+    let m = c .set-size2 .ensures in (
+      (omega (arith, x, n, set-fits (a .at) (a .base .now) (q .0) (a .lo) (q .1 .0)), omega (arith, y, m, set-fits (a .at) (a .base .now) (q .0) (a .g) (q .1 .1))),
+      (
+        subst Asc (sym (ap₂ (λ (i k : ℕ). region i k (a .base .now)) x n ∙ set-there (a .at) (a .base .now) (q .0) (a .lo) (q .1 .0))) (q .0 .laid .asc (a .lo) (q .1 .0)),
+        subst Asc (sym (ap₂ (λ (i k : ℕ). region i k (a .base .now)) y m ∙ set-there (a .at) (a .base .now) (q .0) (a .g) (q .1 .1))) (q .0 .laid .asc (a .g) (q .1 .1)),
+      ),
     )
 
 returns : tie.Need-returns

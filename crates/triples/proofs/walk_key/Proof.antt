@@ -1,11 +1,10 @@
 -- `triples::walk_key` meets its contract. What is walked is the list of the key (OneList).
 use Prim.Native.Nat.{ℕ, _+_, _≤_, _<_}
-use mathlib.Core.Path.{_≡_, ap, subst}
+use mathlib.Core.Path.{ap, subst}
 use mathlib.Core.List.{List}
 use native.Mathlib.Omega.{arith}
 use borrow.Author.Needs.{needs}
 use lib.ListN.{length}
-use lib.Seq.{length-take-le}
 use Rattle.triples.specs.Hits.{Added}
 use Rattle.triples.proofs.OneList.{slot-low, within, all-faces, the-hits}
 use Rattle.triples.proofs.walk_key.Statement.{statement}

@@ -92,10 +92,13 @@ walk-key-requires c κs =
     let w = a .work .now in
     let op = b .pre .0 in
     let bs = b .pre .1 .0 in
-    let h = b .pre .1 .1 in
-    (more (a .at) (a .by) (a .lo) (a .n) w op bs (a .s) (a .e) h (l .i) (l .n) (l .work) (l .inv .1),
-    (subst (Beside (a .at) (a .by)) (sym (same (a .at) (a .by) (a .lo) (a .n) w op bs (a .s) (a .e) h (l .i) (l .n) (l .work) (l .inv .1))) bs,
-    omega (arith, c .before .wide .ensures, read (a .at) (a .by) (a .lo) (a .n) w op bs (a .s) (a .e) h (l .i) (l .n) (l .work) (l .inv .1) k, b .pre .1 .2 (l .i) (l .inv .0) k)))
+    let h = b .pre .1 .1 in (
+      more (a .at) (a .by) (a .lo) (a .n) w op bs (a .s) (a .e) h (l .i) (l .n) (l .work) (l .inv .1),
+      (
+        subst (Beside (a .at) (a .by)) (sym (same (a .at) (a .by) (a .lo) (a .n) w op bs (a .s) (a .e) h (l .i) (l .n) (l .work) (l .inv .1))) bs,
+        omega (arith, c .before .wide .ensures, read (a .at) (a .by) (a .lo) (a .n) w op bs (a .s) (a .e) h (l .i) (l .n) (l .work) (l .inv .1) k, b .pre .1 .2 (l .i) (l .inv .0) k),
+      ),
+    )
 
 add-i : tie.Need-add-i Inv-loop μ-loop
 add-i c = search needs
@@ -113,10 +116,11 @@ loop-again c =
     let op = b .pre .0 in
     let bs = b .pre .1 .0 in
     let h = b .pre .1 .1 in
-    let f = c .before .before .walk-key in
-    (omega (arith, l .inv .0),
-    next (a .at) (a .by) (a .lo) (a .n) w op bs (a .s) (a .e) h (l .i) (l .n) (l .work) (l .inv .1) k _ (f .result) (f .last .0)
-    (c .before .before .before .before .wide .ensures ∙ read (a .at) (a .by) (a .lo) (a .n) w op bs (a .s) (a .e) h (l .i) (l .n) (l .work) (l .inv .1) k) (f .ensures))
+    let f = c .before .before .walk-key in (
+      omega (arith, l .inv .0),
+      next (a .at) (a .by) (a .lo) (a .n) w op bs (a .s) (a .e) h (l .i) (l .n) (l .work) (l .inv .1) k _ (f .result) (f .last .0)
+          (c .before .before .before .before .wide .ensures ∙ read (a .at) (a .by) (a .lo) (a .n) w op bs (a .s) (a .e) h (l .i) (l .n) (l .work) (l .inv .1) k) (f .ensures),
+    )
 
 same-length : tie.Need-same-length Inv-loop μ-loop
 same-length c =

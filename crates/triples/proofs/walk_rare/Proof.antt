@@ -1,5 +1,5 @@
 -- `triples::walk_rare` meets its contract. Three walks over keys, one after the other (Steps).
-use Prim.Native.Nat.{ℕ, _+_, _≤_, _<_}
+use Prim.Native.Nat.{ℕ, _+_}
 use mathlib.Core.Path.{_≡_, refl, sym, _∙_, subst}
 use mathlib.Core.List.{List, _++_}
 use native.Mathlib.Omega.{arith}
