@@ -161,6 +161,20 @@ static void hub_tetrahedra(void) {
     }
 }
 
+/* 16,384 cells of three triangles, each with node 0: neighbours share one, and every face has the node. */
+static void hub_rings(void) {
+    put_node(0, 0, 0);
+    for (size_t i = 0; i < CELLS + 2; i++) put_node(cos((double)i / 100), sin((double)i / 100), 1 + (double)i);
+    for (uint32_t c = 1; c <= CELLS; c++) {
+        size_t from = count;
+        uint32_t a[3] = {0, c, c + 1}, b[3] = {0, c + 1, c + 2}, d[3] = {0, c + 2, c};
+        put_ring(from, a, 3);
+        put_ring(from, b, 3);
+        put_ring(from, d, 3);
+        end_cell(PHED);
+    }
+}
+
 /* ---- one polyhedron of all words: 4,033 rings of 64 nodes */
 
 /* Layers of 64 nodes on a circle; half a ring's nodes are of one layer, the others of the same or one of the next three, so that no
@@ -270,7 +284,8 @@ typedef struct {
 
 static const Case cases[] = {
     {"hexahedra", hexahedra, 0},           {"tetrahedra", tetrahedra, 0}, {"wedges", wedges, 0},  {"hub_pyramids", hub_pyramids, 1590},
-    {"hub_tetrahedra", hub_tetrahedra, 0}, {"one_cell", one_cell, 0},     {"soup", soup, 10252}, {"tank", tank, 4064},
+    {"hub_tetrahedra", hub_tetrahedra, 0}, {"hub_rings", hub_rings, 0},   {"one_cell", one_cell, 0}, {"soup", soup, 10252},
+    {"tank", tank, 4064},
 };
 
 static const double tolerances[] = {0, 1e-6};
