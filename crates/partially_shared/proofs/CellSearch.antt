@@ -12,6 +12,7 @@ use Rattle.index.specs.Faces.{input}
 use Rattle.layout.specs.declared.Layout.{Layout}
 use Rattle.layout.specs.Tables.{firstOf, Standing}
 use Rattle.partially_shared.specs.declared.Range.{Range}
+use Rattle.partially_shared.specs.Listing.{Listed}
 use Rattle.partially_shared.specs.Hits.{faceHits, cellHits, hitOf, Marked, MarkedMore, Searching, Beside}
 use Rattle.partially_shared.proofs.Searched.{beside-then, searching-on, input-on, searches}
 
@@ -34,13 +35,14 @@ mark-zero l w b s h =
     ∙ getD-replicate (l .at .«cell_count») b 0 0 h
 
 -- no face is done
-pub facing-start : (R : Rules) (l : Layout) (w : List ℕ) (s : Range) (a : ℕ) → Standing l w → s .hi ≡ 0 → Facing R l a w w s a
+pub facing-start : (R : Rules) (l : Layout) (w : List ℕ) (s : Range) (a : ℕ) → Standing l w → s .hi ≡ 0 → s .count ≡ 0 → Facing R l a w w s a
 unfolding hitOf
-facing-start R l w s a st h = record {
+facing-start R l w s a st h n = record {
   beside = record { before = refl; behind = refl; long = refl };
   marked = subst (λ (H : List (ℕ × ℕ)). Marked l (input (l .at) w) H w s) none record {
     marks = λ b k. mark-zero l w b st k;
     within = λ b k z. absurd (z (mark-zero l w b st k));
+    listed = λ few. subst (Listed l w) (sym n) record { known = λ b k. absurd k; there = λ b k z. absurd (z (mark-zero l w b st k)) };
   };
   high = omega (arith, h);
   search = searches l w st;

@@ -8,12 +8,12 @@ use native.Mathlib.Omega.{arith}
 use borrow.Author.Tests.{eqb-true, eqb-false, eq-eqb, ne-eqb}
 use lib.Dec.{eqb}
 use lib.ListN.{length, getD, replicate, set, length-set, length-replicate, getD-replicate}
-use lib.Seq.{getD-set-same, getD-set-other, take-set-le, drop-set-lt, set-getD, ext-getD}
+use lib.Seq.{getD-set-same, getD-set-other, take-set-le, set-getD, ext-getD}
 use lib.Ieee.{Float}
 use Rattle.laws.specs.Lists.{onlyIf, each, upFrom}
 use Rattle.laws.specs.Merging.{region}
 use Rattle.laws.proofs.Tests.{tested, split}
-use Rattle.laws.proofs.Stores.{getD-region, length-region}
+use Rattle.laws.proofs.Stores.{getD-region, length-region, region-set-before}
 use Rattle.findings.specs.Findings.{Finding}
 use Rattle.index.specs.Faces.{input}
 use Rattle.records.specs.Keeping.{Kept}
@@ -68,7 +68,7 @@ pub clearing-next : (l : Layout) (w v : List ℕ) (a b : ℕ) → Spaced l (leng
 clearing-next l w v a b sp low p = record {
   beside = beside-then (l .marks) l w v (set v (l .marks + b) 0) (p .beside) record {
     before = take-set-le (l .marks) v (l .marks + b) 0 (omega arith);
-    behind = drop-set-lt (l .last) v (l .marks + b) 0 (omega (arith, sp .others-at, sp .last-at, low));
+    behind = region-set-before (l .last) (l .at .nodes) v (l .marks + b) 0 (omega (arith, sp .others-at, sp .last-at, low));
     long = length-set v (l .marks + b) 0;
   };
   cleared = λ i h k j. go i h k (split i b) j;

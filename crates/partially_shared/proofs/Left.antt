@@ -1,9 +1,9 @@
 -- What a cell's search leaves: the slice stands as before.
 use Prim.Native.Nat.{ℕ}
-use mathlib.Core.Path.{sym, ap, _∙_, subst}
+use mathlib.Core.Path.{sym, _∙_, subst}
 use mathlib.Core.List.{List}
 use native.Mathlib.Omega.{arith}
-use lib.ListN.{length, take}
+use lib.ListN.{length}
 use Rattle.index.specs.Faces.{input}
 use Rattle.layout.specs.declared.Layout.{Layout}
 use Rattle.layout.specs.Tables.{Spaced, Standing, Still}
@@ -19,4 +19,4 @@ left-still l w v u hits r s b m q =
     let sp : Spaced l (length v) = subst (Spaced l) (sym (b .long)) (s .spaced) in
     let both = beside-then (l .at .found) l w v u b (beside-less (l .at .found) (l .marks) l v u (omega (arith, s .spaced .marks-at)) (q .beside)) in
     still l w u s (both .before) (both .long) (all-cleared l (input (l .at) w) v u hits r sp m q)
-    (ap (take (l .at .nodes)) (both .behind) ∙ s .fresh)
+    (both .behind ∙ s .fresh)

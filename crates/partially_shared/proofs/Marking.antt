@@ -7,12 +7,13 @@ use mathlib.Core.List.{List, [], _∷_, _++_, map, append-nil}
 use native.Mathlib.Omega.{arith}
 use borrow.Author.Tests.{eqb-true}
 use lib.Dec.{eqb}
-use lib.ListN.{length, getD, set, length-set}
+use lib.ListN.{length, getD, set, drop, length-set}
 use lib.Seq.{getD-set-same, getD-set-other, take-set-le, drop-set-lt}
 use lib.Ieee.{Float}
 use Rattle.laws.specs.Lists.{onlyIf, first, keep}
 use Rattle.laws.proofs.Tests.{tested, clash, eqb-self}
 use Rattle.laws.proofs.ListLaws.{keep-append}
+use Rattle.laws.proofs.Stores.{region-set-before}
 use Rattle.findings.specs.Findings.{Rules}
 use Rattle.geometry.specs.Points.{pointsOf}
 use Rattle.area.specs.AreaTest.{areaOf, isSpans}
@@ -24,7 +25,9 @@ use Rattle.layout.specs.ByCell.{plainRules}
 use Rattle.layout.specs.declared.Layout.{Layout}
 use Rattle.layout.specs.Tables.{Spaced}
 use Rattle.partially_shared.specs.declared.Range.{Range}
+use Rattle.partially_shared.specs.Listing.{listCount, listWith}
 use Rattle.partially_shared.specs.Hits.{spansAt, passing, hitOf, MarkIs, Marked, Higher, Beside}
+use Rattle.partially_shared.proofs.Listing.{list-before, list-beside, listed-more}
 
 -- a list behind one that is not empty does not change the first
 kept-first : (m o : ℕ) (K Z : List (ℕ × ℕ)) → MarkIs m o (first K) → m ≢ 0 → first (K ++ Z) ≡ first K
@@ -46,12 +49,19 @@ pub beside-self : (o : ℕ) (l : Layout) (w : List ℕ) → Beside o l w w
 beside-self o l w = record { before = refl; behind = refl; long = refl }
 
 -- but for a cell's mark
-pub marks-beside : (l : Layout) (w : List ℕ) (c x y : ℕ) → Spaced l (length w) → c < l .at .«cell_count» → Beside (l .marks) l w (set (set w (l .marks + c) x) (l .others + c) y)
+marks-beside : (l : Layout) (w : List ℕ) (c x y : ℕ) → Spaced l (length w) → c < l .at .«cell_count» → Beside (l .marks) l w (set (set w (l .marks + c) x) (l .others + c) y)
 marks-beside l w c x y sp low = record {
   before = take-set-le (l .marks) (set w (l .marks + c) x) (l .others + c) y (omega (arith, sp .others-at)) ∙ take-set-le (l .marks) w (l .marks + c) x (omega arith);
-  behind = drop-set-lt (l .last) (set w (l .marks + c) x) (l .others + c) y (omega (arith, sp .last-at, low)) ∙ drop-set-lt (l .last) w (l .marks + c) x (omega (arith, sp .last-at, sp .others-at, low));
+  behind = region-set-before (l .last) (l .at .nodes) (set w (l .marks + c) x) (l .others + c) y (omega (arith, sp .last-at, low)) ∙ region-set-before (l .last) (l .at .nodes) w (l .marks + c) x (omega (arith, sp .last-at, sp .others-at, low));
   long = length-set (set w (l .marks + c) x) (l .others + c) y ∙ length-set w (l .marks + c) x;
 }
+
+-- and for its place in the list
+pub noted-beside : (l : Layout) (w : List ℕ) (c n x y : ℕ) → Spaced l (length w) → c < l .at .«cell_count» → Beside (l .marks) l w (listWith l c n (set (set w (l .marks + c) x) (l .others + c) y))
+noted-beside l w c n x y sp low =
+    let b = marks-beside l w c x y sp low in
+    let d = list-beside l c n (set (set w (l .marks + c) x) (l .others + c) y) (subst (Spaced l) (sym (b .long)) sp) in
+    record { before = d .before ∙ b .before; behind = d .behind ∙ b .behind; long = d .long ∙ b .long }
 
 module _ (R : Rules) (l : Layout) (t : List ℕ) (f g : ℕ) where
   abbrev of : ℕ → ℕ × ℕ → Bool
@@ -105,7 +115,7 @@ module _ (R : Rules) (l : Layout) (t : List ℕ) (f g : ℕ) where
 
     -- so does one whose cell is marked
     pub marked-kept : (w : List ℕ) (r : Range) → Marked l t H w r → cellOf (l .at) t g < l .at .«cell_count» → getD w (l .marks + cellOf (l .at) t g) 0 ≢ 0 → Marked l t (H ++ passing R l t f (g ∷ [])) w r
-    marked-kept w r p low h = record { marks = mark; within = p .within }
+    marked-kept w r p low h = record { marks = mark; within = p .within; listed = p .listed }
       where
         mark : (b : ℕ) → b < l .at .«cell_count» → MarkIs (getD w (l .marks + b) 0) (getD w (l .others + b) 0) (hitOf l t b (H ++ passing R l t f (g ∷ [])))
         mark b k = go (tested (eqb (cellOf (l .at) t g) b))
@@ -117,35 +127,56 @@ module _ (R : Rules) (l : Layout) (t : List ℕ) (f g : ℕ) where
             go (inr e) = subst (MarkIs (getD w (l .marks + b) 0) (getD w (l .others + b) 0)) (sym (hit-other b e)) (p .marks b k)
 
     module _ (w : List ℕ) (r : Range) (p : Marked l t H w r) (sp : Spaced l (length w)) (c : ℕ) (is : c ≡ cellOf (l .at) t g) (low : c < l .at .«cell_count») where
+      abbrev q : List ℕ
+      q = set (set w (l .marks + c) (f + 1)) (l .others + c) g
+
       abbrev v : List ℕ
-      v = set (set w (l .marks + c) (f + 1)) (l .others + c) g
+      v = listWith l c (r .count) q
+
+      -- listing changes no mark
+      mark-as : (b : ℕ) → b < l .at .«cell_count» → getD v (l .marks + b) 0 ≡ getD q (l .marks + b) 0
+      mark-as b k = list-before l c (r .count) q (l .marks + b) (omega (arith, k, sp .others-at, sp .last-at, sp .pairs-at))
+
+      other-as : (b : ℕ) → b < l .at .«cell_count» → getD v (l .others + b) 0 ≡ getD q (l .others + b) 0
+      other-as b k = list-before l c (r .count) q (l .others + b) (omega (arith, k, sp .last-at, sp .pairs-at))
 
       -- the words of other cells are as they were
-      mark-other : (b : ℕ) → b < l .at .«cell_count» → c ≢ b → getD v (l .marks + b) 0 ≡ getD w (l .marks + b) 0
-      mark-other b k n =
+      mark-first : (b : ℕ) → b < l .at .«cell_count» → c ≢ b → getD q (l .marks + b) 0 ≡ getD w (l .marks + b) 0
+      mark-first b k n =
           getD-set-other (set w (l .marks + c) (f + 1)) (l .others + c) (l .marks + b) g 0 (λ e. absurd (omega (arith, e, sp .others-at)))
           ∙ getD-set-other w (l .marks + c) (l .marks + b) (f + 1) 0 (λ e. n (omega (arith, e)))
 
+      mark-other : (b : ℕ) → b < l .at .«cell_count» → c ≢ b → getD v (l .marks + b) 0 ≡ getD w (l .marks + b) 0
+      mark-other b k n = mark-as b k ∙ mark-first b k n
+
       other-other : (b : ℕ) → b < l .at .«cell_count» → c ≢ b → getD v (l .others + b) 0 ≡ getD w (l .others + b) 0
       other-other b k n =
-          getD-set-other (set w (l .marks + c) (f + 1)) (l .others + c) (l .others + b) g 0 (λ e. n (omega (arith, e)))
+          other-as b k
+          ∙ getD-set-other (set w (l .marks + c) (f + 1)) (l .others + c) (l .others + b) g 0 (λ e. n (omega (arith, e)))
           ∙ getD-set-other w (l .marks + c) (l .others + b) (f + 1) 0 (λ e. absurd (omega (arith, e, sp .others-at)))
 
       -- the cell's own are new
       mark-own : getD v (l .marks + c) 0 ≡ suc f
       mark-own =
           let e : f + 1 ≡ suc f = omega arith in
-          getD-set-other (set w (l .marks + c) (f + 1)) (l .others + c) (l .marks + c) g 0 (λ e. absurd (omega (arith, e, sp .others-at, low)))
+          mark-as c low
+          ∙ getD-set-other (set w (l .marks + c) (f + 1)) (l .others + c) (l .marks + c) g 0 (λ e. absurd (omega (arith, e, sp .others-at, low)))
           ∙ getD-set-same w (l .marks + c) (f + 1) 0 (omega (arith, sp .others-at, sp .last-at, sp .pairs-at, sp .spare-at, sp .ends, low))
           ∙ e
 
       other-own : getD v (l .others + c) 0 ≡ g
-      other-own = getD-set-same (set w (l .marks + c) (f + 1)) (l .others + c) g 0 (omega (arith, length-set w (l .marks + c) (f + 1), sp .last-at, sp .pairs-at, sp .spare-at, sp .ends, low))
+      other-own = other-as c low ∙ getD-set-same (set w (l .marks + c) (f + 1)) (l .others + c) g 0 (omega (arith, length-set w (l .marks + c) (f + 1), sp .last-at, sp .pairs-at, sp .spare-at, sp .ends, low))
 
       -- a pair that passes marks its cell, where that is not marked yet
-      pub marked-in : (s : Range) → getD w (l .marks + c) 0 ≡ 0 → spansAt R l t f g ≡ true → (s .lo ≤ r .lo) × (s .lo ≤ c) × Higher (r .hi) (c + 1) (s .hi) → Marked l t (H ++ passing R l t f (g ∷ [])) v s
-      marked-in s z y q = record { marks = mark; within = inside }
+      pub marked-in : (s : Range) → getD w (l .marks + c) 0 ≡ 0 → spansAt R l t f g ≡ true → (s .lo ≤ r .lo) × (s .lo ≤ c) × Higher (r .hi) (c + 1) (s .hi) × (s .count ≡ listCount l (r .count)) → Marked l t (H ++ passing R l t f (g ∷ [])) v s
+      marked-in s z y e = record { marks = mark; within = inside; listed = listed-more l c (r .count) (s .count) w q sp long low behind mark-first (p .listed) (e .3) }
         where
+          long : length q ≡ length w
+          long = length-set (set w (l .marks + c) (f + 1)) (l .others + c) g ∙ length-set w (l .marks + c) (f + 1)
+
+          behind : drop (l .pairs) q ≡ drop (l .pairs) w
+          behind = drop-set-lt (l .pairs) (set w (l .marks + c) (f + 1)) (l .others + c) g (omega (arith, low, sp .last-at, sp .pairs-at)) ∙ drop-set-lt (l .pairs) w (l .marks + c) (f + 1) (omega (arith, low, sp .others-at, sp .last-at, sp .pairs-at))
+
           mark : (b : ℕ) → b < l .at .«cell_count» → MarkIs (getD v (l .marks + b) 0) (getD v (l .others + b) 0) (hitOf l t b (H ++ passing R l t f (g ∷ [])))
           mark b k = go (tested (eqb (cellOf (l .at) t g) b))
             where
@@ -165,8 +196,8 @@ module _ (R : Rules) (l : Layout) (t : List ℕ) (f g : ℕ) where
           inside b k m = go (tested (eqb c b))
             where
               go : (eqb c b ≡ true) ⊎ (eqb c b ≡ false) → (s .lo ≤ b) × (b < s .hi)
-              go (inl e) = let j : c ≡ b = eqb-true c b e in (omega (arith, q .1, j), omega (arith, q .2 .above .1, j))
-              go (inr e) =
-                  let n : c ≢ b = λ j. clash (ap (λ (x : ℕ). eqb x b) j ∙ eqb-self b) e in
-                  let i = p .within b k (λ x. m (mark-other b k n ∙ x)) in
-                  (omega (arith, q .0, i .0), omega (arith, q .2 .above .0, i .1))
+              go (inl x) = let j : c ≡ b = eqb-true c b x in (omega (arith, e .1, j), omega (arith, e .2 .above .1, j))
+              go (inr x) =
+                  let n : c ≢ b = λ j. clash (ap (λ (i : ℕ). eqb i b) j ∙ eqb-self b) x in
+                  let i = p .within b k (λ j. m (mark-other b k n ∙ j)) in
+                  (omega (arith, e .0, i .0), omega (arith, e .2 .above .0, i .1))

@@ -3,13 +3,13 @@ use Prim.Native.Nat.{ℕ, suc, _+_, _-_, _≤_, _<_}
 use mathlib.Core.Path.{_≡_, refl, sym, ap, ap₂, _∙_, subst}
 use mathlib.Core.List.{List, [], _∷_, _++_, map, append-nil, append-assoc, map-append}
 use native.Mathlib.Omega.{arith}
-use lib.ListN.{length, getD, take, drop}
+use lib.ListN.{length, getD, take}
 use lib.Seq.{length-sets, take-suc, take-all, take-take, getD-take}
 use Rattle.laws.specs.Lists.{each, keep, upFrom}
 use Rattle.laws.specs.Merging.{region}
 use Rattle.laws.proofs.Bounds.{below-at, below-upFrom, below-keep}
 use Rattle.laws.proofs.ListLaws.{keep-append, keep-length, length-upFrom}
-use Rattle.laws.proofs.Stores.{getD-region, getD-after, region-same, take-before, drop-after}
+use Rattle.laws.proofs.Stores.{getD-region, getD-after, region-same, region-after, take-before}
 use Rattle.findings.specs.Findings.{Rules}
 use Rattle.index.specs.declared.Places.{Places}
 use Rattle.index.specs.Faces.{input, Indexed}
@@ -19,6 +19,7 @@ use Rattle.layout.specs.Tables.{Faced, Spaced, Standing}
 use Rattle.layout.proofs.Again.{same-input}
 use Rattle.partially_shared.specs.declared.Range.{Range}
 use Rattle.partially_shared.specs.Hits.{spansAt, passing, faceHits, hitOf, MarkIs, Marked, MarkedMore, Searching, Beside}
+use Rattle.partially_shared.proofs.Listing.{listed-same}
 
 -- ---- candidates are faces
 
@@ -102,11 +103,12 @@ more-all R l t f i u v q s h a = subst (λ (gs : List ℕ). MarkedMore l t (pass
 
 -- marks under another slice with the same words from `marks` on
 pub more-from : (l : Layout) (t : List ℕ) (more : List (ℕ × ℕ)) (u w v : List ℕ) (q s : Range) → ((i : ℕ) → l .marks ≤ i → getD w i 0 ≡ getD u i 0)
-    → l .marks ≤ l .others → MarkedMore l t more w v q s → MarkedMore l t more u v q s
-more-from l t more u w v q s same h a hits p = a hits record {
+    → l .marks ≤ l .others → l .marks ≤ l .pairs → MarkedMore l t more w v q s → MarkedMore l t more u v q s
+more-from l t more u w v q s same h j a hits p = a hits record {
   marks = λ b k. subst (λ (x : ℕ). MarkIs x (getD w (l .others + b) 0) (hitOf l t b hits)) (sym (same (l .marks + b) (omega arith)))
       (subst (λ (x : ℕ). MarkIs (getD u (l .marks + b) 0) x (hitOf l t b hits)) (sym (same (l .others + b) (omega (arith, h)))) (p .marks b k));
   within = λ b k z. p .within b k (λ e. z (same (l .marks + b) (omega arith) ∙ e));
+  listed = λ few. listed-same l (q .count) u w same j (p .listed few);
 }
 
 -- ---- the candidates of a face, in turn
@@ -166,7 +168,7 @@ module _ (l : Layout) (w u : List ℕ) (f n : ℕ) (s : Searching l w) (found : 
   pub sought-beside : Beside (l .at .found) l w u
   sought-beside = record {
     before = ap (take (l .at .found)) (found .filled) ∙ take-before (l .at .found) w (l .at .found) cs (omega arith);
-    behind = ap (drop (l .last)) (found .filled) ∙ drop-after (l .last) w (l .at .found) cs (omega (arith, fits, s .spaced .others-at, s .spaced .last-at));
+    behind = ap (region (l .last) (l .at .nodes)) (found .filled) ∙ region-after (l .last) (l .at .nodes) w (l .at .found) cs (omega (arith, fits, s .spaced .others-at, s .spaced .last-at));
     long = ap length (found .filled) ∙ length-sets w (l .at .found) cs;
   }
 
@@ -187,5 +189,5 @@ module _ (l : Layout) (w u : List ℕ) (f n : ℕ) (s : Searching l w) (found : 
   -- so what is marked after it is marked from before it
   pub sought-more : (R : Rules) (v : List ℕ) (q r : Range) → MarkedMore l (input (l .at) u) (faceHits R l (input (l .at) u) f) u v q r → MarkedMore l (input (l .at) w) (faceHits R l (input (l .at) w) f) w v q r
   sought-more R v q r a =
-      more-from l (input (l .at) w) (faceHits R l (input (l .at) w) f) w u v q r sought-marks (omega (arith, s .spaced .others-at))
+      more-from l (input (l .at) w) (faceHits R l (input (l .at) w) f) w u v q r sought-marks (omega (arith, s .spaced .others-at)) (omega (arith, s .spaced .others-at, s .spaced .last-at, s .spaced .pairs-at))
       (subst (λ (t : List ℕ). MarkedMore l t (faceHits R l t f) u v q r) (input-on l w u s sought-beside) a)

@@ -77,7 +77,7 @@ map-all P f g (x ∷ l) h p = ap₂ (λ a r. a ∷ r) (h x (p .0)) (map-all P f 
 
 -- ---- ranges of numbers
 
-upFrom-add : (i m n : ℕ) → upFrom i (m + n) ≡ upFrom i m ++ upFrom (i + m) n
+pub upFrom-add : (i m n : ℕ) → upFrom i (m + n) ≡ upFrom i m ++ upFrom (i + m) n
 upFrom-add i zero n = ap₂ (λ (a b : ℕ). upFrom a b) (sym (add-zero i)) (zero-add n)
 upFrom-add i (suc m) n =
     let e : suc m + n ≡ suc (m + n) = omega arith in
@@ -85,7 +85,7 @@ upFrom-add i (suc m) n =
     ap (upFrom i) e ∙ ap (λ (r : List ℕ). i ∷ r) (upFrom-add (suc i) m n ∙ ap (λ (k : ℕ). upFrom (suc i) m ++ upFrom k n) f)
 
 module _ {B : Type 0} (h : ℕ → List B) where
-  each-none : (a n : ℕ) → ((i : ℕ) → a ≤ i → i < a + n → h i ≡ []) → each h (upFrom a n) ≡ []
+  pub each-none : (a n : ℕ) → ((i : ℕ) → a ≤ i → i < a + n → h i ≡ []) → each h (upFrom a n) ≡ []
   each-none a zero p = refl
   each-none a (suc n) p = ap₂ (λ x y. x ++ y) (p a (omega arith) (omega arith)) (each-none (suc a) n (λ i x y. p i (omega (arith, x)) (omega (arith, y))))
 
@@ -178,18 +178,21 @@ module _ (R : Rules) (l : Layout) (t : List ℕ) (F : Faced l t) (c : ℕ) (low 
             outside (inl x) y z = omega (arith, x, y)
             outside (inr x) y z = omega (arith, x, z)
 
-    -- the marks of the range tell all of them
-    pub whole-told : r .hi ≤ l .at .«cell_count» → each (markTells l t w c) (upFrom (r .lo) (r .hi - r .lo)) ≡ partlyCell R l t c
+    -- all marks tell all of them
+    pub all-told : each (markTells l t w c) (upFrom 0 (l .at .«cell_count»)) ≡ partlyCell R l t c
     unfolding partlyCell
-    whole-told top =
-        sym (ranged (split (r .hi) (r .lo)))
-        ∙ each-window (markTells l t w c) (c + 1) (l .at .«cell_count» - (c + 1)) (l .at .«cell_count») (omega (arith, low)) (λ i x o. early-told i (before i x o) x)
+    all-told =
+        each-window (markTells l t w c) (c + 1) (l .at .«cell_count» - (c + 1)) (l .at .«cell_count») (omega (arith, low)) (λ i x o. early-told i (before i x o) x)
         ∙ each-agree (markTells l t w c) (pairCells R l t c) (c + 1) (l .at .«cell_count» - (c + 1)) (λ i x y. later-told i (omega (arith, x)) (omega (arith, y, low)))
       where
         before : (i : ℕ) → i < l .at .«cell_count» → (i < c + 1) ⊎ (c + 1 + (l .at .«cell_count» - (c + 1)) ≤ i) → i ≤ c
         before i x (inl y) = omega (arith, y)
         before i x (inr y) = absurd (omega (arith, x, y, low))
 
+    -- and so do the marks of the range
+    pub whole-told : r .hi ≤ l .at .«cell_count» → each (markTells l t w c) (upFrom (r .lo) (r .hi - r .lo)) ≡ partlyCell R l t c
+    whole-told top = sym (ranged (split (r .hi) (r .lo))) ∙ all-told
+      where
         ranged : (r .hi < r .lo) ⊎ (r .lo ≤ r .hi) → each (markTells l t w c) (upFrom 0 (l .at .«cell_count»)) ≡ each (markTells l t w c) (upFrom (r .lo) (r .hi - r .lo))
         ranged (inl x) =
             let z : 0 ≡ r .hi - r .lo = omega (arith, x) in

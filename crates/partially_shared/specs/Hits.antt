@@ -5,14 +5,16 @@ use mathlib.Core.Logic.{_≢_}
 use mathlib.Core.List.{List, [], _∷_, _++_, map}
 use mathlib.Core.Path.{_≡_}
 use lib.Dec.{eqb}
-use lib.ListN.{length, getD, take, drop}
+use lib.ListN.{length, getD, take}
 use Rattle.laws.specs.Lists.{onlyIf, first, each, keep, upFrom}
+use Rattle.laws.specs.Merging.{region}
 use Rattle.findings.specs.Findings.{Rules, Finding, partly}
 use Rattle.index.specs.Faces.{input, base, cellOf, nodesOf, Indexed}
 use Rattle.seek.specs.Candidates.{common, candidates}
 use Rattle.layout.specs.declared.Layout.{Layout}
 use Rattle.layout.specs.Tables.{firstOf, Faced, Spaced}
 use Rattle.partially_shared.specs.declared.Range.{Range}
+use Rattle.partially_shared.specs.Listing.{Listed}
 
 -- the common nodes of faces f and g pass the area test
 unfoldable pub spansAt : Rules → Layout → List ℕ → ℕ → ℕ → Bool
@@ -38,10 +40,11 @@ abbrev pub MarkIs : ℕ → ℕ → List (ℕ × ℕ) → Type 0
 MarkIs m o [] = m ≡ 0
 MarkIs m o (h ∷ hs) = (m ≡ suc (h .0)) × (o ≡ h .1)
 
--- each later cell is marked with its first pair among these; all that are marked lie in the range
+-- each later cell is marked with its first pair among these; all that are marked lie in the range, and are listed where there is room
 pub record Marked (l : Layout) (t : List ℕ) (hits : List (ℕ × ℕ)) (w : List ℕ) (r : Range) : Type 0 where
   pub marks : (b : ℕ) → b < l .at .«cell_count» → MarkIs (getD w (l .marks + b) 0) (getD w (l .others + b) 0) (hitOf l t b hits)
   pub within : (b : ℕ) → b < l .at .«cell_count» → getD w (l .marks + b) 0 ≢ 0 → (r .lo ≤ b) × (b < r .hi)
+  pub listed : r .count ≤ l .words → Listed l w (r .count)
 
 -- what was marked before is marked with these behind
 abbrev pub MarkedMore : Layout → List ℕ → List (ℕ × ℕ) → (w v : List ℕ) → (r s : Range) → Type 0
@@ -59,10 +62,10 @@ pub record Searching (l : Layout) (w : List ℕ) : Type 0 where
   pub below : l .at .offsets ≤ l .at .found
   pub spaced : Spaced l (length w)
 
--- w became v: all is as before but the words from o on, before `last`
+-- w became v: all is as before but the words from o on; the last nodes are, too
 pub record Beside (o : ℕ) (l : Layout) (w v : List ℕ) : Type 0 where
   pub before : take o v ≡ take o w
-  pub behind : drop (l .last) v ≡ drop (l .last) w
+  pub behind : region (l .last) (l .at .nodes) v ≡ region (l .last) (l .at .nodes) w
   pub long : length v ≡ length w
 
 -- the finding that the mark of cell b tells

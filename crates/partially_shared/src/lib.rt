@@ -1,4 +1,5 @@
-// Partly shared pairs, by first cell: each later cell is marked with its lowest face pair, and then the marked cells are written in order.
+// Partly shared pairs, by first cell: each later cell is marked with its lowest face pair, and then the marked cells are written in order,
+// found in the range that has them all or, where few are marked in a wide range, in a sorted list of them.
 ghost use mathlib.Core.Path.{_≡_};
 ghost use mathlib.Core.Logic.{_≢_};
 ghost use mathlib.Core.List.{[], _∷_};
@@ -14,12 +15,15 @@ ghost use Rattle.records.specs.Keeping.{Kept};
 ghost use Rattle.layout.specs.Tables.{Spaced, Standing, Still};
 ghost use Rattle.layout.specs.Kept.{KeptAny};
 ghost use Rattle.layout.specs.ByCell.{plainRules, partlyCell};
+ghost use Rattle.partially_shared.specs.Listing.{Listed, Rising, listCount, listWith, ListFits};
 ghost use Rattle.partially_shared.specs.Hits.{passing, faceHits, cellHits, Marked, MarkedMore, Higher, Searching, Beside, toldBy, markTells, MarkFits, MarksFit, Cleared};
+ghost use Rattle.pair_sort.specs.Pairs.{pairsAt};
 
-// The cells from lo on, before hi.
+// The cells from lo on, before hi, and how many are listed: one more than the layout's `words` where the list is too short for all.
 pub struct Range {
     pub lo: usize,
     pub hi: usize,
+    pub count: usize,
 }
 
 // The lower of two.
@@ -42,15 +46,31 @@ fn higher(a: usize, b: usize) -> usize
     a
 }
 
-// The range with cell b.
-fn widen(r: Range, b: usize) -> Range
+// The range with cell b, and `count` listed.
+fn widen(r: Range, b: usize, count: usize) -> Range
     requires { ⌜ b < 2 ^ 32 ⌝ }
-    ensures { λ s. ⌜ (s .lo ≤ r .lo) × (s .lo ≤ b) × Higher (r .hi) (b + 1) (s .hi) ⌝ }
+    ensures { λ s. ⌜ (s .lo ≤ r .lo) × (s .lo ≤ b) × Higher (r .hi) (b + 1) (s .hi) × (s .count ≡ count) ⌝ }
 {
     Range {
         lo: lower(r.lo, b),
         hi: higher(r.hi, b + 1),
+        count: count,
     }
+}
+
+// Cell b is listed behind n others, where there is room: as the first word of a pair, whose second word may be any.
+fn list_cell(work: &mut [u32], l: layout::Layout, b: usize, n: usize) -> usize
+    requires { ⌜ Spaced l (length (now work)) ⌝ }
+    requires { ⌜ b < l .at .«cell_count» ⌝ }
+    ensures { λ k. ⌜ (k ≡ listCount l n) × (now (work .exit) ≡ listWith l b n (now (work .entry))) ⌝ }
+{
+    let words = l.words;
+    if n < words {
+        let at = l.pairs + 2 * n;
+        work[at] = counting::narrow(b);
+        return n + 1;
+    }
+    words + 1
 }
 
 // Cell b gets the mark of faces f and g.
@@ -91,7 +111,8 @@ fn note(
         return r;
     }
     mark(work, l, b, f, g);
-    widen(r, b)
+    let count = list_cell(work, l, b, r.count);
+    widen(r, b, count)
 }
 
 // The n candidates of face f, which stand at `found`, in order.
@@ -162,6 +183,7 @@ fn note_cell(
     let mut s = Range {
         lo: at.cell_count,
         hi: 0,
+        count: 0,
     };
     let mut f = layout::first_face(work, l, c);
     while f < end {
@@ -258,6 +280,76 @@ fn keep_range(
     k
 }
 
+// The findings of the marked cells, which are among `count` listed ones in order; all marks become zero.
+fn keep_sorted(
+    coords: &[f64],
+    work: &mut [u32],
+    l: layout::Layout,
+    c: usize,
+    count: usize,
+    findings: &mut [u8],
+    room: usize,
+    n: usize,
+) -> usize
+    requires { ⌜ Searching l (now work) ⌝ }
+    requires { ⌜ (c < l .at .«cell_count») × (count ≤ l .words) × (l .at .nodes ≡ nodeCount (now coords)) × MarksFit l (now work) × Listed l (now work) count × Rising (pairsAt (l .pairs) count (now work)) ⌝ }
+    requires { ⌜ (64 * room ≤ length (now findings)) × (n ≤ 2 ^ 56) ⌝ }
+    ensures { λ k. ⌜ KeptAny (now (coords .entry)) room n (each (markTells l (input (l .at) (now (work .entry))) (now (work .entry)) c) (upFrom 0 (l .at .«cell_count»))) (now (findings .entry)) (now (findings .exit)) k ⌝ }
+    ensures { λ k. ⌜ Cleared l (now (work .entry)) 0 (l .at .«cell_count») (now (work .exit)) × (k ≤ n + 2 ^ 18) ⌝ }
+{
+    let pairs = l.pairs;
+    let mut k = n;
+    let mut next = 0;
+    let mut i = 0;
+    while i < count {
+        let b = counting::wide(work[pairs + 2 * i]);
+        if next <= b {
+            k = keep_marked(coords, work, l, c, b, findings, room, k);
+            next = b + 1;
+            i += 1;
+        } else {
+            i += 1;
+        }
+    }
+    k
+}
+
+// The same where they are listed in any order: the list is sorted first.
+fn keep_listed(
+    coords: &[f64],
+    work: &mut [u32],
+    l: layout::Layout,
+    c: usize,
+    count: usize,
+    findings: &mut [u8],
+    room: usize,
+    n: usize,
+) -> usize
+    requires { ⌜ Searching l (now work) ⌝ }
+    requires { ⌜ (c < l .at .«cell_count») × (count ≤ l .words) × (l .at .nodes ≡ nodeCount (now coords)) × MarksFit l (now work) × Listed l (now work) count ⌝ }
+    requires { ⌜ (64 * room ≤ length (now findings)) × (n ≤ 2 ^ 56) ⌝ }
+    ensures { λ k. ⌜ KeptAny (now (coords .entry)) room n (each (markTells l (input (l .at) (now (work .entry))) (now (work .entry)) c) (upFrom 0 (l .at .«cell_count»))) (now (findings .entry)) (now (findings .exit)) k ⌝ }
+    ensures { λ k. ⌜ Cleared l (now (work .entry)) 0 (l .at .«cell_count») (now (work .exit)) × (k ≤ n + 2 ^ 18) ⌝ }
+{
+    let pairs = l.pairs;
+    let spare = l.spare;
+    pair_sort::sort_pairs(work, pairs, spare, count);
+    keep_sorted(coords, work, l, c, count, findings, room, n)
+}
+
+// Whether to go through the list: it has all marked cells and is short against the range.
+fn by_list(r: Range, l: layout::Layout) -> bool
+    ensures { λ x. ⌜ ListFits l (r .count) x ⌝ }
+{
+    if r.hi <= r.lo {
+        return false;
+    }
+    if l.words < r.count {
+        return false;
+    }
+    r.count < (r.hi - r.lo) / 16
+}
+
 // The partly shared pairs whose first cell is c.
 pub fn keep_partly(
     coords: &[f64],
@@ -278,5 +370,8 @@ pub fn keep_partly(
     ensures { λ k. ⌜ (k ≤ n + 2 ^ 18) × Still l (now (work .entry)) (now (work .exit)) ⌝ }
 {
     let r = note_cell(coords, tol, work, l, by, c, by_nodes);
+    if by_list(r, l) {
+        return keep_listed(coords, work, l, c, r.count, findings, room, n);
+    }
     keep_range(coords, work, l, c, r, findings, room, n)
 }

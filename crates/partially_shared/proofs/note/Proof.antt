@@ -9,8 +9,10 @@ use lib.ListN.{getD}
 use lib.Seq.{length-take-le}
 use Rattle.index.specs.Faces.{input}
 use Rattle.layout.specs.ByCell.{plainRules}
+use Rattle.layout.specs.Tables.{Spaced}
+use Rattle.partially_shared.specs.Listing.{listWith}
 use Rattle.partially_shared.specs.Hits.{passing, Marked, MarkedMore, Beside}
-use Rattle.partially_shared.proofs.Marking.{spans-is, beside-self, marked-out, marked-kept, marked-in, marks-beside}
+use Rattle.partially_shared.proofs.Marking.{spans-is, beside-self, marked-out, marked-kept, marked-in, noted-beside}
 use Rattle.partially_shared.proofs.note.Statement.{statement}
 use Rattle.partially_shared.proofs.note.Tie as tie
 
@@ -69,29 +71,39 @@ returns-2 c =
 mark-requires : tie.Need-mark-requires
 mark-requires c κs = search needs
 
+list-cell-requires : tie.Need-list-cell-requires
+list-cell-requires c κs =
+    let p = c .before .before .before .before .before .before .before .before .before .before .before .before .before .before .before .before .pre .0 .spaced in
+    let y = c .before .before .before .mark in
+    (subst (Spaced (c .before .before .before .before .before .before .before .before .before .before .before .before .before .before .before .before .args .l)) (sym (y .kept .0)) p, c .before .before .before .before .before .before .before .before .before .before .before .cell-of .ensures .1)
+
 widen-requires : tie.Need-widen-requires
-widen-requires c κs = search needs
+widen-requires c κs = let h = c .before .before .before .before .before .before .before .before .before .before .before .before .before .before .cell-of .ensures .1 in let p = c .before .before .before .before .before .before .before .before .before .before .before .before .before .before .before .before .before .before .before .pre .0 .spaced .few-cells in omega (arith, h, p)
 
 same-length-3 : tie.Need-same-length-3
 same-length-3 c = search needs
 
 returns-3 : tie.Need-returns-3
 returns-3 c =
-    let b = c .before .before .before .before .before .before .before .before .before .before .before .before .before .before .before .before in
+    let b = c .before .before .before .before .before .before .before .before .before .before .before .before .before .before .before .before .before .before .before .before in
     let a = b .args in
     let w = a .work .now in
     let t = input (a .l .at) w in
     let R = plainRules (a .coords .now) (a .tol) in
-    let e = c .before .before .before .before .before .before .before .before .before .before .before .cell-of .ensures in
+    let o = c .before .before .before .before .before .before .before .before .before .before .before .before .before .before .before .cell-of in
+    let i = o .result in
+    let e = o .ensures in
     let sp = b .pre .0 .spaced in
-    let i = c .before .before .before .before .before .before .before .before .before .before .before .cell-of .result in
-    let yes = sym (spans-is (a .coords .now) (a .tol) (a .l) w (a .f) (a .g) (b .pre .0 .below)) ∙ sym (c .before .before .before .before .before .before .spans .ensures) ∙ not-false (c .before .before .before .before .before .before .spans .result) (c .before .before .before .before .before .if2 .left) in
-    let m = c .before .before .before .mark .ensures in
-    let z = c .before .before .before .before .before .before .before .before .if1 .left in
-    let more : MarkedMore (a .l) t (passing R (a .l) t (a .f) (a .g ∷ [])) w (c .before .before .before .mark .last .0) (a .r) (c .widen .result) =
+    let p = c .before .before .before .before .before .before .before .before .before .before .spans in
+    let yes = sym (spans-is (a .coords .now) (a .tol) (a .l) w (a .f) (a .g) (b .pre .0 .below)) ∙ sym (p .ensures) ∙ not-false (p .result) (c .before .before .before .before .before .before .before .before .before .if2 .left) in
+    let y = c .before .before .before .list-cell in
+    let m = y .ensures .1 ∙ ap (listWith (a .l) i (a .r .count)) (c .before .before .before .before .before .before .before .mark .ensures) in
+    let z = c .before .before .before .before .before .before .before .before .before .before .before .before .if1 .left in
+    let d = c .widen .ensures in
+    let more : MarkedMore (a .l) t (passing R (a .l) t (a .f) (a .g ∷ [])) w (y .last .0) (a .r) (c .widen .result) =
     λ hits p. subst (λ (v : List ℕ). Marked (a .l) t (hits ++ passing R (a .l) t (a .f) (a .g ∷ [])) v (c .widen .result)) (sym m)
-    (marked-in R (a .l) t (a .f) (a .g) hits w (a .r) p sp i (e .0) (e .1) (c .widen .result) z yes (c .widen .ensures)) in
-    (more, (subst (Beside (a .l .marks) (a .l) w) (sym m) (marks-beside (a .l) w i (a .f + 1) (a .g) sp (e .1)), c .widen .ensures .2 .least (a .l .at .«cell_count») (b .pre .1 .3) (omega (arith, e .1))))
+    (marked-in R (a .l) t (a .f) (a .g) hits w (a .r) p sp i (e .0) (e .1) (c .widen .result) z yes (d .0, d .1, d .2, d .3 ∙ y .ensures .0)) in
+    (more, (subst (Beside (a .l .marks) (a .l) w) (sym m) (noted-beside (a .l) w i (a .r .count) (a .f + 1) (a .g) sp (e .1)), d .2 .least (a .l .at .«cell_count») (b .pre .1 .3) (omega (arith, e .1))))
 
 pub note-spec : {M : Type 1} → statement M
 note-spec =
@@ -109,6 +121,7 @@ note-spec =
     same-length-2
     returns-2
     mark-requires
+    list-cell-requires
     widen-requires
     same-length-3
     returns-3)

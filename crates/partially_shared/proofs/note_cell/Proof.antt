@@ -32,7 +32,7 @@ loop-holds : tie.Need-loop-holds Inv-loop μ-loop
 loop-holds c =
     let b = c .before .before .before .before .before .before .before in
     let a = b .args in
-    (facing-start (plainRules (a .coords .now) (a .tol)) (a .l) (a .work .now) _ (c .first-face2 .result) (b .pre .0) refl, omega arith, omega arith, omega (arith, c .first-face2 .ensures .0, c .before .before .first-face .ensures .0, b .pre .0 .faced .first-rising (a .c) (b .pre .1 .0)))
+    (facing-start (plainRules (a .coords .now) (a .tol)) (a .l) (a .work .now) _ (c .first-face2 .result) (b .pre .0) refl refl, omega arith, omega arith, omega (arith, c .first-face2 .ensures .0, c .before .before .first-face .ensures .0, b .pre .0 .faced .first-rising (a .c) (b .pre .1 .0)))
 
 note-face-requires : tie.Need-note-face-requires Inv-loop μ-loop
 note-face-requires c κs =
