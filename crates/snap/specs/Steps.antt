@@ -6,8 +6,10 @@ use mathlib.Core.List.{List, [], _∷_, map}
 use lib.Dec.{eqb}
 use lib.ListN.{getD, take, drop}
 use lib.Seq.{sets, slice}
-use lib.Ieee.{Float}
+use lib.Ieee.{Float, binary64, sub, lt, le}
 use Rattle.laws.specs.Merging.{region}
+use Rattle.geometry.specs.declared.Point.{Point}
+use Rattle.geometry.specs.Points.{pointSub, pointDot}
 use Rattle.snap.specs.Weld.{groups, spread, give}
 
 -- v is w but for the words in [f, t)
@@ -17,6 +19,16 @@ But f t w v = (take f v ≡ take f w) × (drop t v ≡ drop t w)
 -- l with xs from a on, and from s on
 abbrev pub both : List ℕ → ℕ → ℕ → List ℕ → List ℕ
 both l a s xs = sets (sets l a xs) s xs
+
+-- ---- a leader's tests, on the points a and b of the leader and a node
+
+-- b's x minus a's exceeds the tolerance
+abbrev pub farPoints : Float → Point → Point → Bool
+farPoints t a b = lt t (sub binary64 (b .x) (a .x))
+
+-- the squared distance is at most the limit
+abbrev pub nearPoints : Float → Point → Point → Bool
+nearPoints limit a b = le (pointDot (pointSub a b) (pointSub a b)) limit
 
 -- ---- marks: node n's is word k + n, 0 until it is taken, then one more than its welded number
 

@@ -5,28 +5,23 @@ ghost use lib.ListN.{length, getD};
 ghost use lib.Seq.{sets, slice};
 ghost use Rattle.laws.specs.Merging.{region, AllBelow};
 ghost use Rattle.geometry.specs.Coordinates.{nodeCount};
-ghost use Rattle.snap.specs.Weld.{farOf, nearOf, takes as takesOf, least as leastOf};
-ghost use Rattle.snap.specs.Steps.{But, marked, putAll, numbers, weldFrom};
+ghost use Rattle.snap.specs.Weld.{takes as takesOf, least as leastOf};
+ghost use Rattle.snap.specs.Steps.{But, farPoints, nearPoints, marked, putAll, numbers, weldFrom};
+use geometry::Point;
 
-// Node n's x minus the leader's exceeds the tolerance.
-fn far(coords: &[f64], tol: f64, p: u32, n: u32) -> bool
-    requires { ⌜ (p < nodeCount (now coords)) × (n < nodeCount (now coords)) ⌝ }
-    ensures { λ r. ⌜ r ≡ farOf (now (coords .entry)) tol p n ⌝ }
+// The x of b minus that of a exceeds the tolerance.
+fn far(a: Point, b: Point, tol: f64) -> bool
+    ensures { λ r. ⌜ r ≡ farPoints tol a b ⌝ }
 {
-    let a = geometry::point3(coords, p);
-    let b = geometry::point3(coords, n);
     b.x - a.x > tol
 }
 
-// The squared distance is at most the squared tolerance.
-fn near(coords: &[f64], tol: f64, p: u32, n: u32) -> bool
-    requires { ⌜ (p < nodeCount (now coords)) × (n < nodeCount (now coords)) ⌝ }
-    ensures { λ r. ⌜ r ≡ nearOf (now (coords .entry)) tol p n ⌝ }
+// The squared distance is at most the limit.
+fn near(a: Point, b: Point, limit: f64) -> bool
+    ensures { λ r. ⌜ r ≡ nearPoints limit a b ⌝ }
 {
-    let a = geometry::point3(coords, p);
-    let b = geometry::point3(coords, n);
     let d = geometry::difference(a, b);
-    geometry::dot(d, d) <= tol * tol
+    geometry::dot(d, d) <= limit
 }
 
 // Node n is taken: its mark, among the words from k on, is not 0.
@@ -50,18 +45,21 @@ fn takes(
     requires { ⌜ (i ≤ e) × (e ≤ g) × (g + 1 + (e - i) ≤ k) × (k + nodeCount (now coords) ≤ length (now work)) × (getD (now work) g 0 < nodeCount (now coords)) × AllBelow (nodeCount (now coords)) (slice i e (now work)) ⌝ }
     ensures { λ r. ⌜ (r ≡ g + 1 + length (takesOf (now (coords .entry)) tol (getD (now (work .entry)) g 0) (marked k (now (work .entry))) (slice i e (now (work .entry))))) × (now (work .exit) ≡ sets (now (work .entry)) (g + 1) (takesOf (now (coords .entry)) tol (getD (now (work .entry)) g 0) (marked k (now (work .entry))) (slice i e (now (work .entry))))) ⌝ }
 {
+    let leader = work[g];
+    let a = geometry::point3(coords, leader);
+    let limit = tol * tol;
     let mut j = i;
     let mut last = g;
     while j < e {
-        let leader = work[g];
         let n = work[j];
         if taken(work, k, n) {
             j += 1;
         } else {
-            if far(coords, tol, leader, n) {
+            let b = geometry::point3(coords, n);
+            if far(a, b, tol) {
                 return last + 1;
             }
-            if near(coords, tol, leader, n) {
+            if near(a, b, limit) {
                 work[last + 1] = n;
                 last += 1;
                 j += 1;

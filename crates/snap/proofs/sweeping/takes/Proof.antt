@@ -16,60 +16,59 @@ use Rattle.snap.proofs.sweeping.takes.Statement.{statement}
 use Rattle.snap.proofs.sweeping.takes.Tie as tie
 
 abbrev Inv-loop : tie.InvT-loop
-Inv-loop coords tol work₀ i e g k j₀ last₀ work j last = (i ≤ j) × (j ≤ e) × (g ≤ last) × (last + i ≤ g + j) × (length work ≡ length work₀) × (take (g + 1) work ≡ take (g + 1) work₀) × (drop k work ≡ drop k work₀) × (last + 1 + length (takes coords tol (getD work₀ g 0) (marked k work₀) (slice j e work₀)) ≡ g + 1 + length (takes coords tol (getD work₀ g 0) (marked k work₀) (slice i e work₀))) × (sets work (last + 1) (takes coords tol (getD work₀ g 0) (marked k work₀) (slice j e work₀)) ≡ sets work₀ (g + 1) (takes coords tol (getD work₀ g 0) (marked k work₀) (slice i e work₀)))
+Inv-loop coords tol work₀ i e g k leader a limit j₀ last₀ work j last = (i ≤ j) × (j ≤ e) × (g ≤ last) × (last + i ≤ g + j) × (length work ≡ length work₀) × (take (g + 1) work ≡ take (g + 1) work₀) × (drop k work ≡ drop k work₀) × (last + 1 + length (takes coords tol (getD work₀ g 0) (marked k work₀) (slice j e work₀)) ≡ g + 1 + length (takes coords tol (getD work₀ g 0) (marked k work₀) (slice i e work₀))) × (sets work (last + 1) (takes coords tol (getD work₀ g 0) (marked k work₀) (slice j e work₀)) ≡ sets work₀ (g + 1) (takes coords tol (getD work₀ g 0) (marked k work₀) (slice i e work₀)))
 
 abbrev μ-loop : tie.MeasureT-loop
-μ-loop coords tol work₀ i e g k j₀ last₀ work j last = e - j
-
-loop-holds : tie.Need-loop-holds Inv-loop μ-loop
-loop-holds c = (search needs, search needs, search needs, search needs, refl, refl, refl, refl, refl)
+μ-loop coords tol work₀ i e g k leader a limit j₀ last₀ work j last = e - j
 
 -- the leader and the node that is looked at, at entry
 abbrev head : tie.Start Inv-loop μ-loop → ℕ
 head s = getD (s .args .work .now) (s .args .g) 0
 
 abbrev next : tie.At-loop Inv-loop μ-loop → ℕ
-next at = getD (at .before .before .before .args .work .now) (at .loop .j) 0
+next at = getD (at .before .before .before .before .before .args .work .now) (at .loop .j) 0
 
--- both are as they were, and are nodes
-head-kept : (at : tie.At-loop Inv-loop μ-loop) → getD (at .loop .work) (at .before .before .before .args .g) 0 ≡ head (at .before .before .before)
-head-kept at = let s = at .before .before .before in read-to (s .args .g + 1) (s .args .g) (at .loop .work) (s .args .work .now) (at .loop .inv .5) (omega arith)
-
+-- the node is as it was
 next-kept : (c : tie.In-loop Inv-loop μ-loop) → getD (c .before .loop .work) (c .before .loop .j) 0 ≡ next (c .before)
 next-kept c =
     let at = c .before in
-    let s = at .before .before .before in
+    let s = at .before .before .before .before .before in
     read-to (s .args .g + 1) (at .loop .j) (at .loop .work) (s .args .work .now) (at .loop .inv .5) (omega arith)
 
-next-node : (c : tie.In-loop Inv-loop μ-loop) → getD (c .before .loop .work) (c .before .loop .j) 0 < length (c .before .before .before .before .args .coords .now) / 3
+next-node : (c : tie.In-loop Inv-loop μ-loop) → getD (c .before .loop .work) (c .before .loop .j) 0 < length (c .before .before .before .before .before .before .args .coords .now) / 3
 next-node c =
     let at = c .before in
-    let s = at .before .before .before in
+    let s = at .before .before .before .before .before in
     let b : s .args .e ≤ length (s .args .work .now) = omega arith in
     rw (next-kept c) (in-slice _ (s .args .i) (s .args .e) (at .loop .j) (s .args .work .now) b (s .pre .5) (at .loop .inv .0) (c .loop-test .taken))
 
-head-node : (at : tie.At-loop Inv-loop μ-loop) → getD (at .loop .work) (at .before .before .before .args .g) 0 < length (at .before .before .before .args .coords .now) / 3
-head-node at = rw (head-kept at) (at .before .before .before .pre .4)
-
 -- what the three tests say, of the list at entry
-skips : (c : tie.After-taken Inv-loop μ-loop) → c .taken .result ≡ marked (c .before .before .before .before .before .before .before .before .args .k) (c .before .before .before .before .before .before .before .before .args .work .now) (next (c .before .before .before .before .before))
+skips : (c : tie.After-taken Inv-loop μ-loop) → c .taken .result ≡ marked (c .before .before .before .before .before .before .before .before .before .args .k) (c .before .before .before .before .before .before .before .before .before .args .work .now) (next (c .before .before .before .before))
 skips c =
-    let at = c .before .before .before .before .before in
-    let s = at .before .before .before in
+    let at = c .before .before .before .before in
+    let s = at .before .before .before .before .before in
     let x = getD (at .loop .work) (at .loop .j) 0 in
-    rw (← next-kept (c .before .before .before .before), ← read-from (s .args .k) (s .args .k + x) (at .loop .work) (s .args .work .now) (at .loop .inv .6) (omega arith)) (c .taken .ensures)
+    rw (← next-kept (c .before .before .before), ← read-from (s .args .k) (s .args .k + x) (at .loop .work) (s .args .work .now) (at .loop .inv .6) (omega arith)) (c .taken .ensures)
 
-fars : (c : tie.After-far Inv-loop μ-loop) → c .far .result ≡ farOf (c .before .before .before .before .before .before .before .before .before .before .args .coords .now) (c .before .before .before .before .before .before .before .before .before .before .args .tol) (head (c .before .before .before .before .before .before .before .before .before .before)) (next (c .before .before .before .before .before .before .before))
-fars c = rw (← next-kept (c .before .before .before .before .before .before), ← head-kept (c .before .before .before .before .before .before .before)) (c .far .ensures)
+fars : (c : tie.After-far Inv-loop μ-loop) → c .far .result ≡ farOf (c .before .before .before .before .before .before .before .before .before .before .before .before .args .coords .now) (c .before .before .before .before .before .before .before .before .before .before .before .before .args .tol) (head (c .before .before .before .before .before .before .before .before .before .before .before .before)) (next (c .before .before .before .before .before .before .before))
+unfolding farOf
+fars c = rw (← next-kept (c .before .before .before .before .before .before), ← c .before .point32 .ensures, ← c .before .before .before .before .before .before .before .before .point3 .ensures) (c .far .ensures)
 
-nears : (c : tie.After-near Inv-loop μ-loop) → c .near .result ≡ nearOf (c .before .before .before .before .before .before .before .before .before .before .before .before .args .coords .now) (c .before .before .before .before .before .before .before .before .before .before .before .before .args .tol) (head (c .before .before .before .before .before .before .before .before .before .before .before .before)) (next (c .before .before .before .before .before .before .before .before .before))
-nears c = rw (← next-kept (c .before .before .before .before .before .before .before .before), ← head-kept (c .before .before .before .before .before .before .before .before .before)) (c .near .ensures)
+nears : (c : tie.After-near Inv-loop μ-loop) → c .near .result ≡ nearOf (c .before .before .before .before .before .before .before .before .before .before .before .before .before .before .args .coords .now) (c .before .before .before .before .before .before .before .before .before .before .before .before .before .before .args .tol) (head (c .before .before .before .before .before .before .before .before .before .before .before .before .before .before)) (next (c .before .before .before .before .before .before .before .before .before))
+unfolding nearOf
+nears c = rw (← next-kept (c .before .before .before .before .before .before .before .before), ← c .before .before .before .point32 .ensures, ← c .before .before .before .before .before .before .before .before .before .before .point3 .ensures) (c .near .ensures)
 
 mul-leader : tie.Need-mul-leader Inv-loop μ-loop
 mul-leader c = search needs
 
 slice-read-leader : tie.Need-slice-read-leader Inv-loop μ-loop
 slice-read-leader c = search needs
+
+point3-requires : tie.Need-point3-requires Inv-loop μ-loop
+point3-requires c κs = search needs
+
+loop-holds : tie.Need-loop-holds Inv-loop μ-loop
+loop-holds c = (search needs, search needs, search needs, search needs, refl, refl, refl, refl, refl)
 
 mul-n : tie.Need-mul-n Inv-loop μ-loop
 mul-n c = search needs
@@ -78,7 +77,7 @@ slice-read-n : tie.Need-slice-read-n Inv-loop μ-loop
 slice-read-n c = search needs
 
 taken-requires : tie.Need-taken-requires Inv-loop μ-loop
-taken-requires c κs = let h = next-node (c .before .before .before) in omega arith
+taken-requires c κs = let h = next-node (c .before .before) in omega arith
 
 add-j : tie.Need-add-j Inv-loop μ-loop
 add-j c = search needs
@@ -88,11 +87,11 @@ loop-less c = search needs
 
 loop-again : tie.Need-loop-again Inv-loop μ-loop
 loop-again c =
-    let at = c .before .before .before .before .before .before in
-    let s = at .before .before .before in
+    let at = c .before .before .before .before .before in
+    let s = at .before .before .before .before .before in
     let a = s .args in
     let b : a .e ≤ length (a .work .now) = omega arith in
-    let S = step-skip (a .coords .now) (a .tol) (head s) (marked (a .k) (a .work .now)) (a .work .now) (at .loop .j) (a .e) (c .before .before .before .before .before .loop-test .taken) b (sym (skips (c .before)) ∙ c .if1 .taken) in (
+    let S = step-skip (a .coords .now) (a .tol) (head s) (marked (a .k) (a .work .now)) (a .work .now) (at .loop .j) (a .e) (c .before .before .before .before .loop-test .taken) b (sym (skips (c .before)) ∙ c .if1 .taken) in (
       omega arith,
       omega arith,
       omega arith,
@@ -104,8 +103,11 @@ loop-again c =
       ap (sets (at .loop .work) (at .loop .last + 1)) (sym S) ∙ at .loop .inv .8,
     )
 
+point3-requires-2 : tie.Need-point3-requires-2 Inv-loop μ-loop
+point3-requires-2 c κs = let h = next-node (c .before .before .before .before) in omega arith
+
 far-requires : tie.Need-far-requires Inv-loop μ-loop
-far-requires c κs = (head-node (c .before .before .before .before .before .before), next-node (c .before .before .before .before .before))
+far-requires c κs = search needs
 
 add-result : tie.Need-add-result Inv-loop μ-loop
 add-result c = search needs
@@ -116,16 +118,16 @@ same-length c = c .before .before .before .before .before .before .before .befor
 returns : tie.Need-returns Inv-loop μ-loop
 returns c =
     let at = c .before .before .before .before .before .before .before .before in
-    let s = at .before .before .before in
+    let s = at .before .before .before .before .before in
     let a = s .args in
     let b : a .e ≤ length (a .work .now) = omega arith in
-    let S = step-stop (a .coords .now) (a .tol) (head s) (marked (a .k) (a .work .now)) (a .work .now) (at .loop .j) (a .e) (c .before .before .before .before .before .before .before .loop-test .taken) b (sym (skips (c .before .before .before)) ∙ c .before .before .if1 .left) (sym (fars (c .before)) ∙ c .if2 .taken) in (
+    let S = step-stop (a .coords .now) (a .tol) (head s) (marked (a .k) (a .work .now)) (a .work .now) (at .loop .j) (a .e) (c .before .before .before .before .before .before .before .loop-test .taken) b (sym (skips (c .before .before .before .before)) ∙ c .before .before .before .if1 .left) (sym (fars (c .before)) ∙ c .if2 .taken) in (
       sym (add-zero (at .loop .last + 1)) ∙ ap (λ (r : List ℕ). at .loop .last + 1 + length r) (sym S) ∙ at .loop .inv .7,
       ap (sets (at .loop .work) (at .loop .last + 1)) (sym S) ∙ at .loop .inv .8,
     )
 
 near-requires : tie.Need-near-requires Inv-loop μ-loop
-near-requires c κs = (head-node (c .before .before .before .before .before .before .before .before), next-node (c .before .before .before .before .before .before .before))
+near-requires c κs = search needs
 
 add-work : tie.Need-add-work Inv-loop μ-loop
 add-work c = search needs
@@ -148,18 +150,19 @@ loop-less-2 c = search needs
 loop-again-2 : tie.Need-loop-again-2 Inv-loop μ-loop
 loop-again-2 c =
     let at = c .before .before .before .before .before .before .before .before .before .before in
-    let s = at .before .before .before in
+    let s = at .before .before .before .before .before in
     let a = s .args in
     let x = getD (at .loop .work) (at .loop .j) 0 in
+    let less = c .before .before .before .before .before .before .before .before .before .loop-test .taken in
     let b : a .e ≤ length (a .work .now) = omega arith in
-    let S = step-take (a .coords .now) (a .tol) (head s) (marked (a .k) (a .work .now)) (a .work .now) (at .loop .j) (a .e) (c .before .before .before .before .before .before .before .before .before .loop-test .taken) b (sym (skips (c .before .before .before .before .before)) ∙ c .before .before .before .before .if1 .left) (sym (fars (c .before .before .before)) ∙ c .before .before .if2 .left) (sym (nears (c .before)) ∙ c .if3 .taken) in (
+    let S = step-take (a .coords .now) (a .tol) (head s) (marked (a .k) (a .work .now)) (a .work .now) (at .loop .j) (a .e) less b (sym (skips (c .before .before .before .before .before .before)) ∙ c .before .before .before .before .before .if1 .left) (sym (fars (c .before .before .before)) ∙ c .before .before .if2 .left) (sym (nears (c .before)) ∙ c .if3 .taken) in (
       omega arith,
-      omega arith,
+      omega (arith, less),
       omega arith,
       omega arith,
       simp length-set (at .loop .inv .4),
       take-set-le (a .g + 1) (at .loop .work) (at .loop .last + 1) x (omega arith) ∙ at .loop .inv .5,
-      drop-set-lt (a .k) (at .loop .work) (at .loop .last + 1) x (omega arith) ∙ at .loop .inv .6,
+      drop-set-lt (a .k) (at .loop .work) (at .loop .last + 1) x (omega (arith, less)) ∙ at .loop .inv .6,
       omega (arith, ap length S, at .loop .inv .7),
       rw (add-one (at .loop .last + 1), next-kept (c .before .before .before .before .before .before .before .before .before)) (ap (sets (at .loop .work) (at .loop .last + 1)) (sym S) ∙ at .loop .inv .8),
     )
@@ -173,12 +176,13 @@ loop-less-3 c = search needs
 loop-again-3 : tie.Need-loop-again-3 Inv-loop μ-loop
 loop-again-3 c =
     let at = c .before .before .before .before .before .before .before .before .before .before in
-    let s = at .before .before .before in
+    let s = at .before .before .before .before .before in
     let a = s .args in
+    let less = c .before .before .before .before .before .before .before .before .before .loop-test .taken in
     let b : a .e ≤ length (a .work .now) = omega arith in
-    let S = step-pass (a .coords .now) (a .tol) (head s) (marked (a .k) (a .work .now)) (a .work .now) (at .loop .j) (a .e) (c .before .before .before .before .before .before .before .before .before .loop-test .taken) b (sym (skips (c .before .before .before .before .before)) ∙ c .before .before .before .before .if1 .left) (sym (fars (c .before .before .before)) ∙ c .before .before .if2 .left) (sym (nears (c .before)) ∙ c .if3 .left) in (
+    let S = step-pass (a .coords .now) (a .tol) (head s) (marked (a .k) (a .work .now)) (a .work .now) (at .loop .j) (a .e) less b (sym (skips (c .before .before .before .before .before .before)) ∙ c .before .before .before .before .before .if1 .left) (sym (fars (c .before .before .before)) ∙ c .before .before .if2 .left) (sym (nears (c .before)) ∙ c .if3 .left) in (
       omega arith,
-      omega arith,
+      omega (arith, less),
       omega arith,
       omega arith,
       at .loop .inv .4,
@@ -197,7 +201,7 @@ same-length-2 c = c .before .loop .inv .4
 returns-2 : tie.Need-returns-2 Inv-loop μ-loop
 returns-2 c =
     let at = c .before in
-    let s = at .before .before .before in
+    let s = at .before .before .before .before .before in
     let a = s .args in
     let S = takes-none (a .coords .now) (a .tol) (head s) (marked (a .k) (a .work .now)) (a .work .now) (at .loop .j) (a .e) (omega arith) in (
       sym (add-zero (at .loop .last + 1)) ∙ ap (λ (r : List ℕ). at .loop .last + 1 + length r) (sym S) ∙ at .loop .inv .7,
@@ -210,15 +214,17 @@ takes-spec =
     (tie.spec
     Inv-loop
     μ-loop
-    loop-holds
     mul-leader
     slice-read-leader
+    point3-requires
+    loop-holds
     mul-n
     slice-read-n
     taken-requires
     add-j
     loop-less
     loop-again
+    point3-requires-2
     far-requires
     add-result
     same-length
