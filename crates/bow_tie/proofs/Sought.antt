@@ -3,7 +3,7 @@ use mathlib.Core.Path.{_≡_, ap}
 use mathlib.Core.Bool.{Bool, true, false}
 use mathlib.Core.List.{List}
 use Prim.Native.Nat.{ℕ, suc, _+_, _-_, _%_, _<_, _≤_}
-use native.Mathlib.Nat.{mod-lt}
+use native.Mathlib.Nat.{mod-eq-of-lt, mod-self}
 use native.Mathlib.Omega.{arith}
 use lib.ListN.{length, getD}
 use lib.Ieee.{Float}
@@ -69,6 +69,12 @@ pub strangers : (eps : Float) (c : List Float) (ks : List ℕ) (i j : ℕ) → i
 unfolding pairMeets
 strangers eps c ks i j hi hj t = rw (points-length c ks, t, points-at c ks i hi, points-at c ks j hj)
 
--- where edge i ends
-pub follows : (c : List Float) (ks : List ℕ) (i : ℕ) → i < length ks → pointAt c (getD ks ((i + 1) % length ks) 0) ≡ following (pointsOf c ks) i
-follows c ks i h = rw (points-length c ks, points-at c ks ((i + 1) % length ks) (mod-lt (i + 1) (omega arith)))
+-- where an edge that is not the last ends
+pub follows : (c : List Float) (ks : List ℕ) (i : ℕ) → i + 1 < length ks → pointAt c (getD ks (i + 1) 0) ≡ following (pointsOf c ks) i
+follows c ks i h = rw (points-length c ks, mod-eq-of-lt h, points-at c ks (i + 1) h)
+
+-- where the last edge ends
+pub closes : (c : List Float) (ks : List ℕ) (i : ℕ) → i < length ks → length ks ≤ i + 1 → pointAt c (getD ks 0 0) ≡ following (pointsOf c ks) i
+closes c ks i h e =
+    let n : i + 1 ≡ length ks = omega arith in
+    rw (points-length c ks, n, mod-self (length ks), points-at c ks 0 (omega arith))

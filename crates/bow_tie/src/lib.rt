@@ -141,8 +141,11 @@ fn following_at(coords: &[f64], ring: &[u32], i: usize) -> Point
     requires { ⌜ InNodes (now coords) (now ring) × (i < length (now ring)) ⌝ }
     ensures { λ r. ⌜ r ≡ following (pointsOf (now (coords .entry)) (now (ring .entry))) i ⌝ }
 {
-    let j = (i + 1) % ring.len();
-    geometry::point3(coords, ring[j])
+    let j = i + 1;
+    if j < ring.len() {
+        return geometry::point3(coords, ring[j]);
+    }
+    geometry::point3(coords, ring[0])
 }
 
 // Edges i and j are the first and the last of n, which are neighbours.
