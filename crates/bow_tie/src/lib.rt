@@ -1,11 +1,12 @@
 // The meeting of two edges, and the bow-tie test of a ring. Each float expression is that of the Rust, in its order.
 ghost use mathlib.Core.Path.{_≡_};
+ghost use mathlib.Core.Bool.{false, cond};
 ghost use Prim.Native.Nat.{_<_, _≤_};
-ghost use lib.ListN.{length, getD};
-ghost use Rattle.geometry.specs.Points.{pointAt, pointsOf};
+ghost use lib.ListN.{length};
+ghost use Rattle.geometry.specs.Points.{pointsOf};
 ghost use Rattle.geometry.specs.Steps.{InNodes};
 ghost use Rattle.bow_tie.specs.Edges.{placeOf, parallelOf, crossingOf, meetingOf, slackOf, onEdge, near, reaches, touchOf, edgesMeet};
-ghost use Rattle.bow_tie.specs.BowTie.{following, firstAndLast, pairMeets, laterMeets, bowTieOf};
+ghost use Rattle.bow_tie.specs.BowTie.{following, firstAndLast, laterMeets, bowTieOf};
 use geometry::Point;
 
 const EPSILON: f64 = 2.220446049250313e-16;
@@ -158,43 +159,44 @@ fn first_and_last(n: usize, i: usize, j: usize) -> bool
     first & last
 }
 
-// Edges i, which is a - b, and j meet and are not the first and the last.
+// Edges i, which is a - b, and j, which is c - d, of n edges meet and are not the first and the last.
 fn pair_meets(
-    coords: &[f64],
-    ring: &[u32],
+    n: usize,
     eps: f64,
     a: Point,
     b: Point,
+    c: Point,
+    d: Point,
     i: usize,
     j: usize,
 ) -> bool
-    requires { ⌜ InNodes (now coords) (now ring) × (i < length (now ring)) × (j < length (now ring)) × (a ≡ pointAt (now coords) (getD (now ring) i 0)) × (b ≡ following (pointsOf (now coords) (now ring)) i) ⌝ }
-    ensures { λ r. ⌜ r ≡ pairMeets eps (pointsOf (now (coords .entry)) (now (ring .entry))) i j ⌝ }
+    requires { ⌜ j < n ⌝ }
+    ensures { λ r. ⌜ r ≡ cond (firstAndLast n i j) false (edgesMeet eps a b c d) ⌝ }
 {
-    if first_and_last(ring.len(), i, j) {
+    if first_and_last(n, i, j) {
         return false;
     }
-    segments_intersect3(
-        a,
-        b,
-        geometry::point3(coords, ring[j]),
-        following_at(coords, ring, j),
-        eps,
-    )
+    segments_intersect3(a, b, c, d, eps)
 }
 
-// Edge i meets a later one.
+// Edge i meets a later one. The end of edge j, d, is the start of the next one.
 fn later_meets(coords: &[f64], ring: &[u32], eps: f64, i: usize) -> bool
     requires { ⌜ InNodes (now coords) (now ring) × (i < length (now ring)) × (length (now ring) ≤ 64) ⌝ }
     ensures { λ r. ⌜ r ≡ laterMeets eps (pointsOf (now (coords .entry)) (now (ring .entry))) i ⌝ }
 {
+    let mut j = i + 2;
+    if ring.len() <= j {
+        return false;
+    }
     let a = geometry::point3(coords, ring[i]);
     let b = following_at(coords, ring, i);
-    let mut j = i + 2;
+    let mut c = geometry::point3(coords, ring[j]);
     while j < ring.len() {
-        if pair_meets(coords, ring, eps, a, b, i, j) {
+        let d = following_at(coords, ring, j);
+        if pair_meets(ring.len(), eps, a, b, c, d, i, j) {
             return true;
         }
+        c = d;
         j += 1;
     }
     false
