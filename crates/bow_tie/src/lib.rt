@@ -3,6 +3,7 @@ ghost use mathlib.Core.Path.{_≡_};
 ghost use mathlib.Core.Bool.{false, cond};
 ghost use Prim.Native.Nat.{_<_, _≤_};
 ghost use lib.ListN.{length};
+ghost use lib.Ieee.{binary64, sub, mul, div};
 ghost use Rattle.geometry.specs.Points.{pointsOf};
 ghost use Rattle.geometry.specs.Steps.{InNodes};
 ghost use Rattle.bow_tie.specs.Edges.{placeOf, parallelOf, crossingOf, meetingOf, slackOf, onEdge, near, reaches, touchOf, edgesMeet};
@@ -57,13 +58,15 @@ fn span_reaches(slack: f64, lo: f64, hi: f64) -> bool
     from & to
 }
 
-// The meeting of edges that are not parallel.
-fn crossing(s: f64, t: f64) -> Meeting
-    ensures { λ r. ⌜ r ≡ crossingOf s t ⌝ }
+// The meeting of edges that are not parallel; the place on the second is sought only where that on the first is on its edge.
+fn crossing(a11: f64, a12: f64, a22: f64, b1: f64, b2: f64, denom: f64) -> Meeting
+    ensures { λ r. ⌜ r ≡ crossingOf (div binary64 (sub binary64 (mul binary64 a12 b2) (mul binary64 a22 b1)) denom) (div binary64 (sub binary64 (mul binary64 a11 b2) (mul binary64 a12 b1)) denom) ⌝ }
 {
+    let s = (a12 * b2 - a22 * b1) / denom;
     if !span_reaches(TINY, s, s) {
         return Meeting::None;
     }
+    let t = (a11 * b2 - a12 * b1) / denom;
     if !span_reaches(TINY, t, t) {
         return Meeting::None;
     }
@@ -92,7 +95,7 @@ pub fn meet(a: Point, b: Point, c: Point, d: Point, eps: f64) -> Meeting
     if denom <= 64.0 * EPSILON * a11 * a22 {
         return parallel(eps, a, d1, a11, c, d);
     }
-    crossing((a12 * b2 - a22 * b1) / denom, (a11 * b2 - a12 * b1) / denom)
+    crossing(a11, a12, a22, b1, b2, denom)
 }
 
 // eps as a part of the length of a - b.
