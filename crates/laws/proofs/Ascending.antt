@@ -8,7 +8,7 @@ use native.Mathlib.Nat.{le-antisymm}
 use native.Mathlib.Omega.{arith}
 use borrow.Author.Tests.{ltb-true, leb-true, leb-false, eqb-true, eqb-false, lt-ltb, le-leb, lt-leb}
 use lib.Dec.{leb, ltb, eqb}
-use lib.ListN.{getD}
+use lib.ListN.{length, getD}
 use Rattle.laws.specs.Lists.{onlyIf, keep, add, distinct, elem, upFrom}
 use Rattle.laws.proofs.Tests.{tested, both-ways, or-cases, or-swap, and-parts, eqb-self, split}
 use Rattle.laws.proofs.ListLaws.{keep-append, upFrom-snoc}
@@ -173,3 +173,23 @@ from-next g (x ∷ l) a e = go (from-next g l (a .1)) (tested (eqb g x)) (split 
         (ap₂ (λ (m : ℕ) (r : List ℕ). m ∷ r) (sym i) (keep-cong (leb g) (leb (suc g)) l (λ y f. le-leb g y (omega (arith, a .0 y f)) ∙ sym (le-leb (suc g) y (omega (arith, a .0 y f))))))
     go ih (inr s) (inl o) = rw (lt-leb g x o, lt-leb (suc g) x (omega arith)) (ih (rw s at e))
     go ih (inr s) (inr o) = absurd (omega (arith, a .0 g (rw s at e)))
+
+-- a list to which a number is added gets longer by at most one
+pub add-most : (x : ℕ) (l : List ℕ) → length (add leb x l) ≤ length l + 1
+add-most x [] = omega arith
+add-most x (y ∷ l) = go (tested (leb x y)) (tested (leb y x)) (add-most x l)
+  where
+    go : (leb x y ≡ true) ⊎ (leb x y ≡ false) → (leb y x ≡ true) ⊎ (leb y x ≡ false) → length (add leb x l) ≤ length l + 1 → length (add leb x (y ∷ l)) ≤ length (y ∷ l) + 1
+    go (inl a) (inl b) ih = rw (a, b) (omega arith)
+    go (inl a) (inr b) ih = rw (a, b) (omega arith)
+    go (inr a) b ih = rw a (omega arith)
+
+-- and not shorter
+pub add-least : (x : ℕ) (l : List ℕ) → length l ≤ length (add leb x l)
+add-least x [] = omega arith
+add-least x (y ∷ l) = go (tested (leb x y)) (tested (leb y x)) (add-least x l)
+  where
+    go : (leb x y ≡ true) ⊎ (leb x y ≡ false) → (leb y x ≡ true) ⊎ (leb y x ≡ false) → length l ≤ length (add leb x l) → length (y ∷ l) ≤ length (add leb x (y ∷ l))
+    go (inl a) (inl b) ih = rw (a, b) (omega arith)
+    go (inl a) (inr b) ih = rw (a, b) (omega arith)
+    go (inr a) b ih = rw a (omega arith)

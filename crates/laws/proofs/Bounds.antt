@@ -5,8 +5,9 @@ use mathlib.Core.Logic.{_⊎_, inl, inr}
 use mathlib.Core.Bool.{Bool, true, false}
 use mathlib.Core.List.{List, [], _∷_, _++_}
 use native.Mathlib.Omega.{arith}
+use lib.Dec.{leb}
 use lib.ListN.{length, getD}
-use Rattle.laws.specs.Lists.{onlyIf, keep, insert, sort, upFrom}
+use Rattle.laws.specs.Lists.{onlyIf, keep, insert, sort, add, upFrom}
 use Rattle.laws.specs.Merging.{AllBelow}
 use Rattle.laws.proofs.Tests.{tested}
 
@@ -61,3 +62,13 @@ below-keep n p (x ∷ l) h = below-append n (onlyIf (p x) (x ∷ [])) (keep p l)
     go : (b : Bool) → AllBelow n (onlyIf b (x ∷ []))
     go true = (h .0, tt)
     go false = tt
+
+-- one number more in its place, once
+pub below-add : (n x : ℕ) (l : List ℕ) → x < n → AllBelow n l → AllBelow n (add leb x l)
+below-add n x [] h b = (h, tt)
+below-add n x (y ∷ l) h b = go (tested (leb x y)) (tested (leb y x)) (below-add n x l h (b .1))
+  where
+    go : (leb x y ≡ true) ⊎ (leb x y ≡ false) → (leb y x ≡ true) ⊎ (leb y x ≡ false) → AllBelow n (add leb x l) → AllBelow n (add leb x (y ∷ l))
+    go (inl a) (inl c) ih = rw (a, c) b
+    go (inl a) (inr c) ih = rw (a, c) (h, b)
+    go (inr a) c ih = rw a (b .0, ih)

@@ -1,6 +1,6 @@
 -- For internal contracts: the tables of a model's faces in the lent work, below the index, and the scratch behind it.
 use Prim.Native.Nat.{ℕ, _+_, _-_, _*_, _≤_, _<_, _^_}
-use mathlib.Core.List.{List, [], _∷_, map}
+use mathlib.Core.List.{List, map}
 use mathlib.Core.Path.{_≡_}
 use lib.Dec.{leb}
 use lib.ListN.{length, getD, take, replicate}
@@ -13,12 +13,6 @@ use Rattle.layout.specs.declared.Layout.{Layout}
 -- row g of lists that stand one after the other from `words` on, and start where the numbers from `starts` on say
 abbrev pub rowOf : (starts words : ℕ) → List ℕ → ℕ → List ℕ
 rowOf starts words t g = region (words + getD t (starts + g) 0) (getD t (starts + (g + 1)) 0 - getD t (starts + g) 0) t
-
-module _ {A : Type 0} where
-  -- where each of lists starts that stand one after the other from k on, and where the last ends
-  abbrev pub startsOf : ℕ → List (List A) → List ℕ
-  startsOf k [] = k ∷ []
-  startsOf k (r ∷ rs) = k ∷ startsOf (k + length r) rs
 
 -- the ring of face g, and its key
 unfoldable pub ringRow : Layout → List ℕ → ℕ → List ℕ

@@ -9,7 +9,7 @@ use lib.Ieee.{Float}
 use lib.ListN.{length, replicate, length-replicate}
 use lib.Seq.{sets, length-sets, length-take-le}
 use Rattle.laws.specs.Lists.{each, sort}
-use Rattle.laws.specs.Merging.{region}
+use Rattle.laws.specs.Merging.{region, startsOf}
 use Rattle.geometry.specs.Coordinates.{nodeCount}
 use Rattle.mesh.specs.Model.{Model, Raw, cellsFrom, cellsOf}
 use Rattle.mesh.specs.Rings.{ringsOf, nodeSet}
@@ -25,7 +25,7 @@ use Rattle.findings.specs.Rules.{rulesOf, rulesWith}
 use Rattle.findings.proofs.Moved.{cells-count}
 use Rattle.index.specs.Faces.{input, Room}
 use Rattle.layout.specs.declared.Layout.{Layout}
-use Rattle.layout.specs.Tables.{startsOf, Spaced}
+use Rattle.layout.specs.Tables.{Spaced}
 use Rattle.layout.specs.ByCell.{bit}
 use Rattle.layout.specs.Shown.{Shows, Built}
 use Rattle.tables.specs.Owners.{ownersFrom}

@@ -7,7 +7,7 @@ use lib.Dec.{leb}
 use lib.Ieee.{Float}
 use lib.ListN.{length, replicate}
 use Rattle.laws.specs.Lists.{each, sort}
-use Rattle.laws.specs.Merging.{region, AllBelow}
+use Rattle.laws.specs.Merging.{region, AllBelow, startsOf}
 use Rattle.geometry.specs.Coordinates.{nodeCount}
 use Rattle.mesh.specs.Model.{Raw}
 use Rattle.mesh.specs.Rings.{ringsOf, nodeSet}
@@ -15,7 +15,6 @@ use Rattle.mesh.specs.Steps.{ringTotal, WellCells}
 use Rattle.snap.specs.Weld.{weldedBy, weldedAll}
 use Rattle.findings.specs.Rules.{bowOf}
 use Rattle.layout.specs.declared.Layout.{Layout}
-use Rattle.layout.specs.Tables.{startsOf}
 use Rattle.layout.specs.ByCell.{bit}
 use Rattle.tables.specs.Owners.{ownersFrom}
 use Rattle.tables.proofs.Shown.{joined}

@@ -9,7 +9,7 @@ use lib.Ieee.{Float}
 use lib.ListN.{length, getD, take, replicate, length-map, List·getD-map}
 use lib.Seq.{take-length}
 use Rattle.laws.specs.Lists.{each, sort}
-use Rattle.laws.specs.Merging.{region, AllBelow}
+use Rattle.laws.specs.Merging.{region, AllBelow, startsOf}
 use Rattle.laws.proofs.Ascending.{Asc, asc-distinct}
 use Rattle.laws.proofs.Bounds.{below-at, below-append, below-sort}
 use Rattle.laws.proofs.ListLaws.{each-map, getD-any}
@@ -21,7 +21,7 @@ use Rattle.mesh.specs.Steps.{ringTotal}
 use Rattle.findings.specs.Compared.{none}
 use Rattle.index.specs.Faces.{cellOf, bowOf, startOf, nodesOf, Laid}
 use Rattle.layout.specs.declared.Layout.{Layout}
-use Rattle.layout.specs.Tables.{startsOf, ringRow, keyRow, firstOf, facesAt, Faced}
+use Rattle.layout.specs.Tables.{ringRow, keyRow, firstOf, facesAt, Faced}
 use Rattle.layout.specs.ByCell.{bit}
 use Rattle.tables.specs.Owners.{ownersFrom}
 use Rattle.tables.proofs.Passing.{owners-length}

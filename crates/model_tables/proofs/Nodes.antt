@@ -6,10 +6,10 @@ use native.Mathlib.Omega.{arith}
 use lib.ListN.{length, take}
 use lib.Seq.{sets, length-sets}
 use Rattle.laws.specs.Lists.{each}
-use Rattle.laws.specs.Merging.{region}
+use Rattle.laws.specs.Merging.{region, startsOf}
 use Rattle.laws.proofs.Stores.{take-before, region-same}
 use Rattle.layout.specs.declared.Layout.{Layout}
-use Rattle.layout.specs.Tables.{startsOf, Ringed}
+use Rattle.layout.specs.Tables.{Ringed}
 use Rattle.node_sets.specs.Sets.{keysOf, setsFrom, Keyed}
 use Rattle.node_sets.proofs.Keys.{keys-long}
 

@@ -10,7 +10,7 @@ use lib.Ieee.{Float}
 use lib.ListN.{length, getD, take, length-map}
 use lib.Seq.{take-length}
 use Rattle.laws.specs.Lists.{any, each, sort, upFrom}
-use Rattle.laws.specs.Merging.{region, AllBelow}
+use Rattle.laws.specs.Merging.{region, AllBelow, startsOf}
 use Rattle.laws.proofs.ListLaws.{each-map}
 use Rattle.geometry.specs.Coordinates.{nodeCount}
 use Rattle.geometry.specs.Points.{pointsOf}
@@ -22,7 +22,7 @@ use Rattle.snap.specs.Weld.{weldedBy, weldedAll}
 use Rattle.findings.specs.Rules.{bowOf}
 use Rattle.findings.specs.Compared.{none}
 use Rattle.layout.specs.declared.Layout.{Layout}
-use Rattle.layout.specs.Tables.{startsOf, ringRow, firstOf, Ringed}
+use Rattle.layout.specs.Tables.{ringRow, firstOf, Ringed}
 use Rattle.layout.specs.ByCell.{ringBow, cellBow, bit}
 use Rattle.node_sets.specs.Sets.{keysOf, setsFrom}
 use Rattle.tables.proofs.Shown.{joined, starts-length, joined-next, start-read, row-read, first-read, firsts-rise}

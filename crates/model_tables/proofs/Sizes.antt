@@ -9,9 +9,10 @@ use borrow.Author.Tests.{eqb-true, eqb-false, leb-true, ltb-false}
 use lib.Dec.{leb, eqb}
 use lib.ListN.{length, getD, length-append}
 use Rattle.laws.specs.Limits.{ringLimit}
-use Rattle.laws.specs.Lists.{any, each, keep, sort, add}
+use Rattle.laws.specs.Lists.{any, each, keep, sort}
 use Rattle.laws.specs.Merging.{AllBelow}
-use Rattle.laws.proofs.Bounds.{below-append, below-left, below-right}
+use Rattle.laws.proofs.Bounds.{below-append, below-left, below-right, below-add}
+use Rattle.laws.proofs.Ascending.{add-most}
 use Rattle.laws.proofs.Sorting.{length-sort}
 use Rattle.laws.proofs.Tests.{tested, or-none}
 use Rattle.mesh.specs.Model.{Raw}
@@ -92,16 +93,6 @@ below-ring n [] g h k = absurd (omega arith)
 below-ring n (r ∷ rs) zero h k = below-left n r (each (λ (l : List ℕ). l) rs) h
 below-ring n (r ∷ rs) (suc g) h k = below-ring n rs g (below-right n r (each (λ (l : List ℕ). l) rs) h) (omega arith)
 
--- one number more in its place, once
-below-add : (n x : ℕ) (l : List ℕ) → x < n → AllBelow n l → AllBelow n (add leb x l)
-below-add n x [] h k = (h, tt)
-below-add n x (y ∷ l) h k = go (tested (leb x y)) (tested (leb y x)) (below-add n x l h (k .1))
-  where
-    go : (leb x y ≡ true) ⊎ (leb x y ≡ false) → (leb y x ≡ true) ⊎ (leb y x ≡ false) → AllBelow n (add leb x l) → AllBelow n (add leb x (y ∷ l))
-    go (inl a) (inl b) i = rw (a, b) k
-    go (inl a) (inr b) i = rw (a, b) (h, k)
-    go (inr a) b i = rw a (k .0, i)
-
 -- the node set of a ring
 below-set : (n : ℕ) (r : List ℕ) → AllBelow n r → AllBelow n (nodeSet r)
 below-set n [] h = tt
@@ -114,20 +105,10 @@ below-sets n (r ∷ rs) h =
     let rest = each (λ (l : List ℕ). l) rs in
     below-append n (nodeSet r) (each nodeSet rs) (below-set n r (below-left n r rest h)) (below-sets n rs (below-right n r rest h))
 
--- one number more adds at most one
-length-add : (x : ℕ) (l : List ℕ) → length (add leb x l) ≤ suc (length l)
-length-add x [] = omega arith
-length-add x (y ∷ l) = go (tested (leb x y)) (tested (leb y x)) (length-add x l)
-  where
-    go : (leb x y ≡ true) ⊎ (leb x y ≡ false) → (leb y x ≡ true) ⊎ (leb y x ≡ false) → length (add leb x l) ≤ suc (length l) → length (add leb x (y ∷ l)) ≤ suc (suc (length l))
-    go (inl a) (inl b) i = rw (a, b) (omega arith)
-    go (inl a) (inr b) i = rw (a, b) (omega arith)
-    go (inr a) b i = rw a (omega arith)
-
 -- a node set has at most as many words as its ring
 pub length-set-of : (r : List ℕ) → length (nodeSet r) ≤ length r
 length-set-of [] = omega arith
-length-set-of (x ∷ r) = omega (arith, length-add x (nodeSet r), length-set-of r)
+length-set-of (x ∷ r) = omega (arith, add-most x (nodeSet r), length-set-of r)
 
 -- all node sets have at most as many words as all rings
 pub sets-total : (rs : List (List ℕ)) → ringTotal (map nodeSet rs) ≤ ringTotal rs

@@ -8,13 +8,13 @@ use lib.Ieee.{Float}
 use lib.ListN.{length, take, length-map}
 use lib.Seq.{sets, length-sets, length-take-le}
 use Rattle.laws.specs.Lists.{each, sort, upFrom}
-use Rattle.laws.specs.Merging.{region}
+use Rattle.laws.specs.Merging.{region, startsOf}
 use Rattle.geometry.specs.Coordinates.{nodeCount}
 use Rattle.mesh.specs.Model.{Raw}
 use Rattle.mesh.specs.Rings.{ringsOf, nodeSet}
 use Rattle.snap.specs.Weld.{weldedAll}
 use Rattle.layout.specs.declared.Layout.{Layout}
-use Rattle.layout.specs.Tables.{startsOf, Ringed}
+use Rattle.layout.specs.Tables.{Ringed}
 use Rattle.layout.specs.ByCell.{cellBow, bit}
 use Rattle.node_sets.specs.Sets.{keysOf, setsFrom}
 use Rattle.tables.specs.Owners.{ownersFrom}

@@ -1,12 +1,12 @@
 -- Welded numbers are nodes.
 use Prim.Native.Nat.{ℕ, zero, suc, _<_}
-use mathlib.Core.Path.{_≡_, refl, _∙_}
+use mathlib.Core.Path.{_≡_, _∙_}
 use mathlib.Core.Bool.{Bool, true, false, cond, _||_}
 use mathlib.Core.List.{List, [], _∷_}
 use native.Mathlib.Omega.{arith}
 use lib.Dec.{ltb}
 use lib.Ieee.{Float, eq}
-use lib.ListN.{length, set, length-set}
+use lib.ListN.{length, set}
 use Rattle.laws.specs.Lists.{elem, sort, upFrom}
 use Rattle.laws.specs.Merging.{AllBelow}
 use Rattle.laws.proofs.Bounds.{below-sort, below-upFrom}
@@ -14,7 +14,7 @@ use Rattle.laws.proofs.ListLaws.{length-upFrom}
 use Rattle.floats.specs.Floats.{zero64}
 use Rattle.geometry.specs.Coordinates.{nodeCount}
 use Rattle.snap.specs.Weld.{beforeOf, takes, groups, leastFrom, least, give, spread, welded, weldedAll}
-use Rattle.snap.proofs.Groups.{nodes-takes}
+use Rattle.snap.proofs.Groups.{nodes-takes, length-spread}
 
 -- groups of nodes below n, none empty
 abbrev Grouped : ℕ → List (List ℕ) → Type 0
@@ -61,16 +61,6 @@ groups-below c t n f (x ∷ ns) k =
         → Grouped n (cond b (groups c t f ns) ((x ∷ takes c t x f ns) ∷ groups c t (λ i. elem i (x ∷ takes c t x f ns) || f i) ns))
     go true p q = p
     go false p q = (omega arith, (k .0, nodes-takes c t n x f ns (k .1)), q)
-
--- places given keep the length
-length-give : (v : ℕ) (g l : List ℕ) → length (give v g l) ≡ length l
-length-give v [] l = refl
-length-give v (i ∷ g) l = length-give v g (set l i v) ∙ length-set l i v
-
--- so do groups
-length-spread : (gs : List (List ℕ)) (l : List ℕ) → length (spread gs l) ≡ length l
-length-spread [] l = refl
-length-spread (x ∷ gs) l = length-spread gs (give (least x) x l) ∙ length-give (least x) x l
 
 module _ (c : List Float) (t : Float) where
   -- the number of nodes

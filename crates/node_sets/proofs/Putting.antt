@@ -8,13 +8,13 @@ use lib.Dec.{leb}
 use lib.ListN.{length, set, take, length-map, length-append}
 use lib.Seq.{sets, take-take, take-set-le}
 use Rattle.laws.specs.Lists.{each, sort, upFrom}
-use Rattle.laws.specs.Merging.{region}
+use Rattle.laws.specs.Merging.{region, startsOf}
 use Rattle.laws.proofs.ListLaws.{length-upFrom}
 use Rattle.laws.proofs.Sorting.{by-number}
 use Rattle.laws.proofs.Stores.{take-before, sets-append, sets-comm, region-take, region-region, region-set-after}
 use Rattle.mesh.specs.Rings.{nodeSet}
 use Rattle.layout.specs.declared.Layout.{Layout}
-use Rattle.layout.specs.Tables.{startsOf, ringRow, Ringed}
+use Rattle.layout.specs.Tables.{ringRow, Ringed}
 use Rattle.node_sets.specs.Unique.{unique}
 use Rattle.node_sets.specs.Sets.{keysOf, setsFrom, Keyed}
 use Rattle.node_sets.proofs.Unique.{unique-sort}

@@ -5,9 +5,10 @@ use mathlib.Core.List.{List}
 use native.Mathlib.Omega.{arith}
 use lib.ListN.{length, getD, set, take}
 use lib.Seq.{sets}
+use Rattle.laws.specs.Merging.{startsOf}
 use Rattle.mesh.specs.Rings.{nodeSet}
 use Rattle.layout.specs.declared.Layout.{Layout}
-use Rattle.layout.specs.Tables.{startsOf, ringRow}
+use Rattle.layout.specs.Tables.{ringRow}
 use Rattle.node_sets.specs.Sets.{setsFrom, Keyed}
 use Rattle.node_sets.proofs.Putting.{same-tables, keyed-still, below-same, joined, left-step, left-count}
 

@@ -6,6 +6,7 @@ use native.Mathlib.Numerals.{add-one}
 use native.Mathlib.Omega.{arith}
 use lib.ListN.{length, getD, set, replicate, length-append, length-map, length-replicate}
 use lib.Seq.{sets}
+use Rattle.laws.specs.Merging.{startsOf}
 use Rattle.laws.specs.Lists.{each}
 use Rattle.mesh.specs.Model.{Raw, cellsFrom}
 use Rattle.mesh.specs.Rings.{ringsOf}
@@ -16,7 +17,6 @@ use Rattle.faces.specs.Holding.{Noted}
 use Rattle.faces.proofs.Noting.{Noting, noting-start, noting-next, noting-end}
 use Rattle.faces.proofs.Walking.{Walked, walked-start, walked-next, walked-end, next-cell, next-left, next-well, next-asks}
 use Rattle.faces.proofs.Bounds.{cells-few}
-use Rattle.layout.specs.Tables.{startsOf}
 use Rattle.tables.specs.Owners.{ownersFrom}
 
 -- the lengths of all rings of cells

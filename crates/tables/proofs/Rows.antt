@@ -6,14 +6,13 @@ use native.Mathlib.Omega.{arith}
 use lib.ListN.{length, getD, set, length-append, length-set, length-map}
 use lib.Seq.{sets, length-sets, getD-set-same}
 use Rattle.laws.specs.Lists.{each, sum}
-use Rattle.laws.specs.Merging.{region}
+use Rattle.laws.specs.Merging.{region, startsOf}
 use Rattle.laws.proofs.Stores.{getD-before, region-same, sets-over}
 use Rattle.mesh.specs.Steps.{ringTotal}
 use Rattle.faces.specs.Spans.{Sound, ringsIn}
 use Rattle.faces.specs.Holding.{Noted}
 use Rattle.counting.specs.Counts.{sums}
 use Rattle.counting.proofs.CountLaws.{length-sums}
-use Rattle.layout.specs.Tables.{startsOf}
 use Rattle.tables.proofs.Lengths.{cells-small}
 
 -- where lists start is the running sum of their lengths

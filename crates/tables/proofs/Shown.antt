@@ -8,14 +8,14 @@ use native.Mathlib.Omega.{arith}
 use lib.ListN.{length, getD, take, replicate, length-append, length-map, length-replicate, getD-replicate, List·getD-append}
 use lib.Seq.{getD-append-add, take-append-seam, take-length, drop-append-add}
 use Rattle.laws.specs.Lists.{each, upFrom}
-use Rattle.laws.specs.Merging.{region}
+use Rattle.laws.specs.Merging.{region, startsOf}
 use Rattle.laws.proofs.Stores.{region-region, getD-region}
 use Rattle.mesh.specs.Model.{Raw}
 use Rattle.mesh.specs.Rings.{Face, facesFrom, numberFrom, numbered, facesOf, faces, ringsOf}
 use Rattle.faces.proofs.Rings.{span-within}
 use Rattle.index.specs.Faces.{cellOf}
 use Rattle.layout.specs.declared.Layout.{Layout}
-use Rattle.layout.specs.Tables.{rowOf, startsOf, ringRow, firstOf, faceRow, facesAt}
+use Rattle.layout.specs.Tables.{rowOf, ringRow, firstOf, faceRow, facesAt}
 use Rattle.tables.specs.Owners.{ownersFrom}
 use Rattle.tables.proofs.Passing.{owners-length}
 

@@ -5,13 +5,13 @@ ghost use Prim.Native.Nat.{_+_, _≤_, _<_};
 ghost use lib.Dec.{leb};
 ghost use lib.ListN.{length, set, replicate};
 ghost use lib.Seq.{sets};
+ghost use Rattle.laws.specs.Merging.{startsOf};
 ghost use Rattle.laws.specs.Lists.{onlyIf};
 ghost use Rattle.mesh.specs.Model.{cellsFrom};
 ghost use Rattle.mesh.specs.Rings.{phedRings, ringsOf};
 ghost use Rattle.mesh.specs.Steps.{cellWith, WellCell};
 ghost use Rattle.faces.specs.Spans.{Sound, ringsIn};
 ghost use Rattle.faces.specs.Holding.{Noted};
-ghost use Rattle.layout.specs.Tables.{startsOf};
 ghost use Rattle.tables.specs.Owners.{ownersFrom};
 
 // The length of a run, if it has three words; answers the place behind it.

@@ -10,7 +10,7 @@ use lib.ListN.{length}
 use lib.Seq.{sets, length-sets}
 use Rattle.laws.specs.Merging.{region}
 use Rattle.laws.specs.Lists.{elem, add}
-use Rattle.laws.proofs.Ascending.{Asc, elem-add, asc-add, head-in, later-in}
+use Rattle.laws.proofs.Ascending.{Asc, add-least, elem-add, asc-add, head-in, later-in}
 use Rattle.laws.proofs.Tests.{tested, or-cases, or-swap}
 use Rattle.laws.proofs.Stores.{region-same, sets-self, sets-over, length-region}
 use Rattle.index.specs.declared.Places.{Places}
@@ -36,20 +36,10 @@ pub addAll-append : (xs ys l : List ℕ) → addAll (xs ++ ys) l ≡ addAll ys (
 addAll-append [] ys l = refl
 addAll-append (x ∷ xs) ys l = addAll-append xs ys (add leb x l)
 
--- a list gets no shorter
-add-longer : (x : ℕ) (l : List ℕ) → length l ≤ length (add leb x l)
-add-longer x [] = omega arith
-add-longer x (y ∷ l) = go (add-longer x l) (tested (leb x y)) (tested (leb y x))
-  where
-    go : length l ≤ length (add leb x l) → (leb x y ≡ true) ⊎ (leb x y ≡ false) → (leb y x ≡ true) ⊎ (leb y x ≡ false) → suc (length l) ≤ length (add leb x (y ∷ l))
-    go ih (inl a) (inl b) = rw (a, b) (omega arith)
-    go ih (inl a) (inr b) = rw (a, b) (omega arith)
-    go ih (inr a) b = rw a (omega arith)
-
--- also by many
+-- a list to which many are added gets no shorter
 addAll-longer : (xs l : List ℕ) → length l ≤ length (addAll xs l)
 addAll-longer [] l = omega arith
-addAll-longer (x ∷ xs) l = omega (arith, add-longer x l, addAll-longer xs (add leb x l))
+addAll-longer (x ∷ xs) l = omega (arith, add-least x l, addAll-longer xs (add leb x l))
 
 -- an ascending list of numbers from m to n is no longer than that
 asc-length : (l : List ℕ) (m n : ℕ) → Asc l → ((x : ℕ) → elem x l ≡ true → (m ≤ x) × (x < n)) → length l ≤ n - m

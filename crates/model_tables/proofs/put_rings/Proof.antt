@@ -3,10 +3,10 @@ use Prim.Native.Nat.{ℕ}
 use mathlib.Core.Path.{ap, _∙_}
 use mathlib.Core.List.{List, map}
 use lib.Seq.{sets}
+use Rattle.laws.specs.Merging.{startsOf}
 use Rattle.mesh.specs.Model.{cellsFrom}
 use Rattle.mesh.specs.Rings.{ringsOf}
 use Rattle.faces.specs.Spans.{ringsIn}
-use Rattle.layout.specs.Tables.{startsOf}
 use borrow.Author.Needs.{needs}
 use Rattle.model_tables.proofs.put_rings.Statement.{statement}
 use Rattle.model_tables.proofs.put_rings.Tie as tie
