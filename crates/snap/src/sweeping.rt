@@ -16,10 +16,19 @@ fn far(a: Point, b: Point, tol: f64) -> bool
     b.x - a.x > tol
 }
 
-// The squared distance is at most the limit.
-fn near(a: Point, b: Point, limit: f64) -> bool
-    ensures { λ r. ⌜ r ≡ nearPoints limit a b ⌝ }
+// The squared distance is at most tol * tol. Where the square of one difference is above that, the rest is not computed.
+fn near(a: Point, b: Point, tol: f64) -> bool
+    ensures { λ r. ⌜ r ≡ nearPoints tol a b ⌝ }
 {
+    let limit = tol * tol;
+    let y = a.y - b.y;
+    if y * y > limit {
+        return false;
+    }
+    let z = a.z - b.z;
+    if z * z > limit {
+        return false;
+    }
     let d = geometry::difference(a, b);
     geometry::dot(d, d) <= limit
 }
@@ -47,7 +56,6 @@ fn takes(
 {
     let leader = work[g];
     let a = geometry::point3(coords, leader);
-    let limit = tol * tol;
     let mut j = i;
     let mut last = g;
     while j < e {
@@ -59,7 +67,7 @@ fn takes(
             if far(a, b, tol) {
                 return last + 1;
             }
-            if near(a, b, limit) {
+            if near(a, b, tol) {
                 work[last + 1] = n;
                 last += 1;
                 j += 1;

@@ -16,10 +16,10 @@ use Rattle.snap.proofs.sweeping.takes.Statement.{statement}
 use Rattle.snap.proofs.sweeping.takes.Tie as tie
 
 abbrev Inv-loop : tie.InvT-loop
-Inv-loop coords tol work₀ i e g k leader a limit j₀ last₀ work j last = (i ≤ j) × (j ≤ e) × (g ≤ last) × (last + i ≤ g + j) × (length work ≡ length work₀) × (take (g + 1) work ≡ take (g + 1) work₀) × (drop k work ≡ drop k work₀) × (last + 1 + length (takes coords tol (getD work₀ g 0) (marked k work₀) (slice j e work₀)) ≡ g + 1 + length (takes coords tol (getD work₀ g 0) (marked k work₀) (slice i e work₀))) × (sets work (last + 1) (takes coords tol (getD work₀ g 0) (marked k work₀) (slice j e work₀)) ≡ sets work₀ (g + 1) (takes coords tol (getD work₀ g 0) (marked k work₀) (slice i e work₀)))
+Inv-loop coords tol work₀ i e g k leader a j₀ last₀ work j last = (i ≤ j) × (j ≤ e) × (g ≤ last) × (last + i ≤ g + j) × (length work ≡ length work₀) × (take (g + 1) work ≡ take (g + 1) work₀) × (drop k work ≡ drop k work₀) × (last + 1 + length (takes coords tol (getD work₀ g 0) (marked k work₀) (slice j e work₀)) ≡ g + 1 + length (takes coords tol (getD work₀ g 0) (marked k work₀) (slice i e work₀))) × (sets work (last + 1) (takes coords tol (getD work₀ g 0) (marked k work₀) (slice j e work₀)) ≡ sets work₀ (g + 1) (takes coords tol (getD work₀ g 0) (marked k work₀) (slice i e work₀)))
 
 abbrev μ-loop : tie.MeasureT-loop
-μ-loop coords tol work₀ i e g k leader a limit j₀ last₀ work j last = e - j
+μ-loop coords tol work₀ i e g k leader a j₀ last₀ work j last = e - j
 
 -- the leader and the node that is looked at, at entry
 abbrev head : tie.Start Inv-loop μ-loop → ℕ
