@@ -1,10 +1,11 @@
 -- A sum of squares is at most a limit only where each of the squares is.
-use mathlib.Core.Path.{_≡_, refl, sym, ap, _∙_, subst}
+use mathlib.Core.Path.{_≡_, refl, sym, ap, _∙_}
 use mathlib.Core.Logic.{⊎-elim}
 use mathlib.Core.Bool.{Bool, true, false, not, cond, true≢false, false≢true}
 use Prim.Native.Nat.{ℕ, _+_, _*_, _^_, _≤_, _<_}
-use native.Mathlib.Nat.{le-trans, le-of-eq, lt-of-lt-of-le, mul-assoc, mul-comm, mul-left-comm, mul-right-comm, mul-le-mul-right, mul-pos}
+use native.Mathlib.Nat.{le-trans, le-of-eq, lt-of-lt-of-le, mul-assoc, mul-comm, mul-left-comm, mul-le-mul-right, mul-pos}
 use native.Mathlib.Omega.{arith}
+use lib.IntN.{ℤ}
 use lib.Dec.{T, ltb}
 use lib.Pow.{pow-pos, pow-mono, shl-lt}
 use lib.Ieee.{Float, nan, inf, fin, binary64, up, down, odd, units, round, add, mul, lt, le, fits}
@@ -54,11 +55,6 @@ square-plain (inf true) = tt
 square-plain (inf false) = tt
 square-plain (fin true m e) = round-plain (m * up e * (m * up e)) (down e * down e)
 square-plain (fin false m e) = round-plain (m * up e * (m * up e)) (down e * down e)
-
--- the sum of two finite values without a minus sign
-added : (m : ℕ) (e : _) (n : ℕ) (d : _) → add binary64 (fin false m e) (fin false n d) ≡ round binary64 false (m * up e * down d + n * up d * down e) (down e * down d)
-unfolding add
-added m e n d = refl
 
 sum-plain : (p q : Float) → T (plain p) → T (plain q) → T (plain (add binary64 p q))
 unfolding add
@@ -118,10 +114,10 @@ record Parts (p q t : Float) : Type 0 where
 
 -- u / r is x / c, and x / c is at most (x * b + y * c) / (c * b), and at most (y * c + x * b) / (b * c)
 share-low : (u r x c y b : ℕ) → x * r ≡ u * c → u * (c * b) ≤ (x * b + y * c) * r
-share-low u r x c y b h = let k : u * (c * b) ≡ x * b * r = simp (mul-assoc, mul-comm, mul-left-comm) (simp (mul-assoc, mul-comm, mul-left-comm) at (ap (λ (n : ℕ). n * b) (sym h))) in le-trans (le-of-eq k) (mul-le-mul-right r (omega arith))
+share-low u r x c y b h = let k : u * (c * b) ≡ x * b * r = simp (mul-assoc, mul-comm, mul-left-comm) (simp (mul-assoc, mul-comm) at (ap (λ (n : ℕ). n * b) (sym h))) in le-trans (le-of-eq k) (mul-le-mul-right r (omega arith))
 
 share-high : (u r x c y b : ℕ) → x * r ≡ u * c → u * (b * c) ≤ (y * c + x * b) * r
-share-high u r x c y b h = let k : u * (b * c) ≡ x * b * r = simp (mul-assoc, mul-comm, mul-left-comm) (simp (mul-assoc, mul-comm, mul-left-comm) at (ap (λ (n : ℕ). n * b) (sym h))) in le-trans (le-of-eq k) (mul-le-mul-right r (omega arith))
+share-high u r x c y b h = let k : u * (b * c) ≡ x * b * r = simp (mul-assoc, mul-comm, mul-left-comm) (simp (mul-assoc, mul-comm) at (ap (λ (n : ℕ). n * b) (sym h))) in le-trans (le-of-eq k) (mul-le-mul-right r (omega arith))
 
 parts : (p q : Float) → T (plain p) → T (plain q) → T (fits binary64 p) → T (fits binary64 q) → T (counted (add binary64 p q)) → Parts p q (add binary64 p q)
 unfolding add
@@ -146,7 +142,7 @@ parts (fin false m e) (fin false n d) g h f k c =
     }
 
 -- what is at most a finite limit is finite
-under : (t : Float) (m : ℕ) (e : _) → T (plain t) → le t (fin false m e) ≡ true → T (counted t)
+under : (t : Float) (m : ℕ) (e : ℤ) → T (plain t) → le t (fin false m e) ≡ true → T (counted t)
 unfolding le
 under nan m e g h = absurd (false≢true h)
 under (inf true) m e g h = absurd g

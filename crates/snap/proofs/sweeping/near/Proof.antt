@@ -1,7 +1,6 @@
 -- By what its callees ensure; a square above the limit decides (Squares).
 use mathlib.Core.Path.{sym}
 use borrow.Author.Needs.{needs}
-use lib.Ieee.{binary64, sub}
 use Rattle.geometry.specs.Points.{pointSub, pointDot}
 use Rattle.snap.proofs.Squares.{second-above, third-above}
 use Rattle.snap.proofs.sweeping.near.Statement.{statement}
@@ -9,11 +8,11 @@ use Rattle.snap.proofs.sweeping.near.Tie as tie
 
 returns : tie.Need-returns
 unfolding pointDot pointSub
-returns c = sym (second-above _ _ _ _ (c .if1 .taken))
+returns c = sym (third-above _ _ _ _ (c .if1 .taken))
 
 returns-2 : tie.Need-returns-2
 unfolding pointDot pointSub
-returns-2 c = sym (third-above _ _ _ _ (c .if2 .taken))
+returns-2 c = sym (second-above _ _ _ _ (c .if2 .taken))
 
 difference-requires : tie.Need-difference-requires
 difference-requires c κs = search needs
