@@ -3,6 +3,7 @@ use Prim.Native.Nat.{ℕ, suc, _+_, _≤_, _<_}
 use mathlib.Core.Path.{_≡_, refl, sym, ap, _∙_}
 use mathlib.Core.Bool.{Bool, true, false, cond, _||_}
 use mathlib.Core.List.{List, [], _∷_, _++_}
+use mathlib.Core.Logic.{⊎-elim}
 use native.Mathlib.Numerals.{add-one}
 use native.Mathlib.Omega.{arith}
 use borrow.Author.Tests.{lt-ltb, le-ltb, ltb-true}
@@ -11,6 +12,7 @@ use lib.Ieee.{Float}
 use lib.ListN.{length, getD, set, length-set}
 use lib.Seq.{slice, slice-cons}
 use Rattle.laws.specs.Lists.{onlyIf, elem}
+use Rattle.laws.proofs.Tests.{tested}
 use Rattle.snap.specs.Weld.{farOf, nearOf, takes, groups, spread, give, least, leastFrom}
 use Rattle.laws.specs.Merging.{AllBelow}
 use Rattle.snap.proofs.Parts.{slice-none}
@@ -35,10 +37,9 @@ module _ (c : List Float) (t : Float) (p : ℕ) (taken : ℕ → Bool) (l : List
       → takes c t p taken (slice j e l) ≡ getD l j 0 ∷ takes c t p taken (slice (j + 1) e l)
   step-take g f n = next ∙ rw (g, f, n)
 
-  -- another is passed by
-  pub step-pass : taken (getD l j 0) ≡ false → farOf c t p (getD l j 0) ≡ false → nearOf c t p (getD l j 0) ≡ false
-      → takes c t p taken (slice j e l) ≡ takes c t p taken (slice (j + 1) e l)
-  step-pass g f n = next ∙ rw (g, f, n)
+  -- another is passed by, taken or not
+  pub step-pass : farOf c t p (getD l j 0) ≡ false → nearOf c t p (getD l j 0) ≡ false → takes c t p taken (slice j e l) ≡ takes c t p taken (slice (j + 1) e l)
+  step-pass f n = ⊎-elim step-skip (λ (g : taken (getD l j 0) ≡ false). next ∙ rw (g, f, n)) (tested (taken (getD l j 0)))
 
 -- of no nodes none is taken
 pub takes-none : (c : List Float) (t : Float) (p : ℕ) (taken : ℕ → Bool) (l : List ℕ) (j e : ℕ) → e ≤ j → takes c t p taken (slice j e l) ≡ []

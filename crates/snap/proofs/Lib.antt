@@ -1,5 +1,6 @@
 -- Laws of the welding.
 pub mod Order
+pub mod Squares
 pub mod Parts
 pub mod Halves
 pub mod Groups

@@ -6,7 +6,7 @@ use mathlib.Core.List.{List, [], _∷_, map}
 use lib.Dec.{eqb}
 use lib.ListN.{getD, take, drop}
 use lib.Seq.{sets, slice}
-use lib.Ieee.{Float, binary64, sub, lt, le}
+use lib.Ieee.{Float, binary64, sub, mul, lt, le}
 use Rattle.laws.specs.Merging.{region}
 use Rattle.geometry.specs.declared.Point.{Point}
 use Rattle.geometry.specs.Points.{pointSub, pointDot}
@@ -26,9 +26,9 @@ both l a s xs = sets (sets l a xs) s xs
 abbrev pub farPoints : Float → Point → Point → Bool
 farPoints t a b = lt t (sub binary64 (b .x) (a .x))
 
--- the squared distance is at most the limit
+-- the squared distance is at most tolerance * tolerance
 abbrev pub nearPoints : Float → Point → Point → Bool
-nearPoints limit a b = le (pointDot (pointSub a b) (pointSub a b)) limit
+nearPoints t a b = le (pointDot (pointSub a b) (pointSub a b)) (mul binary64 t t)
 
 -- ---- marks: node n's is word k + n, 0 until it is taken, then one more than its welded number
 

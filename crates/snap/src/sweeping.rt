@@ -16,10 +16,19 @@ fn far(a: Point, b: Point, tol: f64) -> bool
     b.x - a.x > tol
 }
 
-// The squared distance is at most the limit.
-fn near(a: Point, b: Point, limit: f64) -> bool
-    ensures { λ r. ⌜ r ≡ nearPoints limit a b ⌝ }
+// The squared distance is at most tol * tol. Where the square of one difference is above that, the rest is not computed.
+fn near(a: Point, b: Point, tol: f64) -> bool
+    ensures { λ r. ⌜ r ≡ nearPoints tol a b ⌝ }
 {
+    let limit = tol * tol;
+    let z = a.z - b.z;
+    if z * z > limit {
+        return false;
+    }
+    let y = a.y - b.y;
+    if y * y > limit {
+        return false;
+    }
     let d = geometry::difference(a, b);
     geometry::dot(d, d) <= limit
 }
@@ -33,6 +42,7 @@ fn taken(work: &[u32], k: usize, n: u32) -> bool
 }
 
 // The node at g leads: those that it takes, among [i, e) of work, go right behind it, before the marks at k. Returns the group's end.
+// The mark of a node that is neither far nor near is not read: taken or not, it is passed by.
 fn takes(
     coords: &[f64],
     tol: f64,
@@ -47,25 +57,27 @@ fn takes(
 {
     let leader = work[g];
     let a = geometry::point3(coords, leader);
-    let limit = tol * tol;
     let mut j = i;
     let mut last = g;
     while j < e {
         let n = work[j];
-        if taken(work, k, n) {
-            j += 1;
-        } else {
-            let b = geometry::point3(coords, n);
-            if far(a, b, tol) {
+        let b = geometry::point3(coords, n);
+        if far(a, b, tol) {
+            if taken(work, k, n) {
+                j += 1;
+            } else {
                 return last + 1;
             }
-            if near(a, b, limit) {
+        } else if near(a, b, tol) {
+            if taken(work, k, n) {
+                j += 1;
+            } else {
                 work[last + 1] = n;
                 last += 1;
                 j += 1;
-            } else {
-                j += 1;
             }
+        } else {
+            j += 1;
         }
     }
     last + 1

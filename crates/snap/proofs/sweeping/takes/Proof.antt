@@ -16,10 +16,10 @@ use Rattle.snap.proofs.sweeping.takes.Statement.{statement}
 use Rattle.snap.proofs.sweeping.takes.Tie as tie
 
 abbrev Inv-loop : tie.InvT-loop
-Inv-loop coords tol work₀ i e g k leader a limit j₀ last₀ work j last = (i ≤ j) × (j ≤ e) × (g ≤ last) × (last + i ≤ g + j) × (length work ≡ length work₀) × (take (g + 1) work ≡ take (g + 1) work₀) × (drop k work ≡ drop k work₀) × (last + 1 + length (takes coords tol (getD work₀ g 0) (marked k work₀) (slice j e work₀)) ≡ g + 1 + length (takes coords tol (getD work₀ g 0) (marked k work₀) (slice i e work₀))) × (sets work (last + 1) (takes coords tol (getD work₀ g 0) (marked k work₀) (slice j e work₀)) ≡ sets work₀ (g + 1) (takes coords tol (getD work₀ g 0) (marked k work₀) (slice i e work₀)))
+Inv-loop coords tol work₀ i e g k leader a j₀ last₀ work j last = (i ≤ j) × (j ≤ e) × (g ≤ last) × (last + i ≤ g + j) × (length work ≡ length work₀) × (take (g + 1) work ≡ take (g + 1) work₀) × (drop k work ≡ drop k work₀) × (last + 1 + length (takes coords tol (getD work₀ g 0) (marked k work₀) (slice j e work₀)) ≡ g + 1 + length (takes coords tol (getD work₀ g 0) (marked k work₀) (slice i e work₀))) × (sets work (last + 1) (takes coords tol (getD work₀ g 0) (marked k work₀) (slice j e work₀)) ≡ sets work₀ (g + 1) (takes coords tol (getD work₀ g 0) (marked k work₀) (slice i e work₀)))
 
 abbrev μ-loop : tie.MeasureT-loop
-μ-loop coords tol work₀ i e g k leader a limit j₀ last₀ work j last = e - j
+μ-loop coords tol work₀ i e g k leader a j₀ last₀ work j last = e - j
 
 -- the leader and the node that is looked at, at entry
 abbrev head : tie.Start Inv-loop μ-loop → ℕ
@@ -42,21 +42,28 @@ next-node c =
     let b : s .args .e ≤ length (s .args .work .now) = omega arith in
     rw (next-kept c) (in-slice _ (s .args .i) (s .args .e) (at .loop .j) (s .args .work .now) b (s .pre .5) (at .loop .inv .0) (c .loop-test .taken))
 
--- what the three tests say, of the list at entry
-skips : (c : tie.After-taken Inv-loop μ-loop) → c .taken .result ≡ marked (c .before .before .before .before .before .before .before .before .before .args .k) (c .before .before .before .before .before .before .before .before .before .args .work .now) (next (c .before .before .before .before))
+-- what the tests say, of the list at entry
+skips : (c : tie.After-taken Inv-loop μ-loop) → c .taken .result ≡ marked (c .before .before .before .before .before .before .before .before .before .before .before .before .args .k) (c .before .before .before .before .before .before .before .before .before .before .before .before .args .work .now) (next (c .before .before .before .before .before .before .before))
 skips c =
-    let at = c .before .before .before .before in
+    let at = c .before .before .before .before .before .before .before in
     let s = at .before .before .before .before .before in
     let x = getD (at .loop .work) (at .loop .j) 0 in
-    rw (← next-kept (c .before .before .before), ← read-from (s .args .k) (s .args .k + x) (at .loop .work) (s .args .work .now) (at .loop .inv .6) (omega arith)) (c .taken .ensures)
+    rw (← next-kept (c .before .before .before .before .before .before), ← read-from (s .args .k) (s .args .k + x) (at .loop .work) (s .args .work .now) (at .loop .inv .6) (omega arith)) (c .taken .ensures)
 
-fars : (c : tie.After-far Inv-loop μ-loop) → c .far .result ≡ farOf (c .before .before .before .before .before .before .before .before .before .before .before .before .args .coords .now) (c .before .before .before .before .before .before .before .before .before .before .before .before .args .tol) (head (c .before .before .before .before .before .before .before .before .before .before .before .before)) (next (c .before .before .before .before .before .before .before))
+skips-2 : (c : tie.After-taken2 Inv-loop μ-loop) → c .taken2 .result ≡ marked (c .before .before .before .before .before .before .before .before .before .before .before .before .before .before .args .k) (c .before .before .before .before .before .before .before .before .before .before .before .before .before .before .args .work .now) (next (c .before .before .before .before .before .before .before .before .before))
+skips-2 c =
+    let at = c .before .before .before .before .before .before .before .before .before in
+    let s = at .before .before .before .before .before in
+    let x = getD (at .loop .work) (at .loop .j) 0 in
+    rw (← next-kept (c .before .before .before .before .before .before .before .before), ← read-from (s .args .k) (s .args .k + x) (at .loop .work) (s .args .work .now) (at .loop .inv .6) (omega arith)) (c .taken2 .ensures)
+
+fars : (c : tie.After-far Inv-loop μ-loop) → c .far .result ≡ farOf (c .before .before .before .before .before .before .before .before .before .args .coords .now) (c .before .before .before .before .before .before .before .before .before .args .tol) (head (c .before .before .before .before .before .before .before .before .before)) (next (c .before .before .before .before))
 unfolding farOf
-fars c = rw (← next-kept (c .before .before .before .before .before .before), ← c .before .point32 .ensures, ← c .before .before .before .before .before .before .before .before .point3 .ensures) (c .far .ensures)
+fars c = rw (← next-kept (c .before .before .before), ← c .before .point32 .ensures, ← c .before .before .before .before .before .point3 .ensures) (c .far .ensures)
 
-nears : (c : tie.After-near Inv-loop μ-loop) → c .near .result ≡ nearOf (c .before .before .before .before .before .before .before .before .before .before .before .before .before .before .args .coords .now) (c .before .before .before .before .before .before .before .before .before .before .before .before .before .before .args .tol) (head (c .before .before .before .before .before .before .before .before .before .before .before .before .before .before)) (next (c .before .before .before .before .before .before .before .before .before))
+nears : (c : tie.After-near Inv-loop μ-loop) → c .near .result ≡ nearOf (c .before .before .before .before .before .before .before .before .before .before .before .args .coords .now) (c .before .before .before .before .before .before .before .before .before .before .before .args .tol) (head (c .before .before .before .before .before .before .before .before .before .before .before)) (next (c .before .before .before .before .before .before))
 unfolding nearOf
-nears c = rw (← next-kept (c .before .before .before .before .before .before .before .before), ← c .before .before .before .point32 .ensures, ← c .before .before .before .before .before .before .before .before .before .before .point3 .ensures) (c .near .ensures)
+nears c = rw (← next-kept (c .before .before .before .before .before), ← c .before .before .before .point32 .ensures, ← c .before .before .before .before .before .before .before .point3 .ensures) (c .near .ensures)
 
 mul-leader : tie.Need-mul-leader Inv-loop μ-loop
 mul-leader c = search needs
@@ -76,8 +83,14 @@ mul-n c = search needs
 slice-read-n : tie.Need-slice-read-n Inv-loop μ-loop
 slice-read-n c = search needs
 
+point3-requires-2 : tie.Need-point3-requires-2 Inv-loop μ-loop
+point3-requires-2 c κs = let h = next-node (c .before) in omega arith
+
+far-requires : tie.Need-far-requires Inv-loop μ-loop
+far-requires c κs = search needs
+
 taken-requires : tie.Need-taken-requires Inv-loop μ-loop
-taken-requires c κs = let h = next-node (c .before .before) in omega arith
+taken-requires c κs = let h = next-node (c .before .before .before .before .before) in omega arith
 
 add-j : tie.Need-add-j Inv-loop μ-loop
 add-j c = search needs
@@ -87,13 +100,14 @@ loop-less c = search needs
 
 loop-again : tie.Need-loop-again Inv-loop μ-loop
 loop-again c =
-    let at = c .before .before .before .before .before in
+    let at = c .before .before .before .before .before .before .before .before in
     let s = at .before .before .before .before .before in
     let a = s .args in
+    let less = c .before .before .before .before .before .before .before .loop-test .taken in
     let b : a .e ≤ length (a .work .now) = omega arith in
-    let S = step-skip (a .coords .now) (a .tol) (head s) (marked (a .k) (a .work .now)) (a .work .now) (at .loop .j) (a .e) (c .before .before .before .before .loop-test .taken) b (sym (skips (c .before)) ∙ c .if1 .taken) in (
+    let S = step-skip (a .coords .now) (a .tol) (head s) (marked (a .k) (a .work .now)) (a .work .now) (at .loop .j) (a .e) less b (sym (skips (c .before)) ∙ c .if2 .taken) in (
       omega arith,
-      omega arith,
+      omega (arith, less),
       omega arith,
       omega arith,
       at .loop .inv .4,
@@ -102,12 +116,6 @@ loop-again c =
       ap (λ (r : List ℕ). at .loop .last + 1 + length r) (sym S) ∙ at .loop .inv .7,
       ap (sets (at .loop .work) (at .loop .last + 1)) (sym S) ∙ at .loop .inv .8,
     )
-
-point3-requires-2 : tie.Need-point3-requires-2 Inv-loop μ-loop
-point3-requires-2 c κs = let h = next-node (c .before .before .before .before) in omega arith
-
-far-requires : tie.Need-far-requires Inv-loop μ-loop
-far-requires c κs = search needs
 
 add-result : tie.Need-add-result Inv-loop μ-loop
 add-result c = search needs
@@ -120,14 +128,43 @@ returns c =
     let at = c .before .before .before .before .before .before .before .before in
     let s = at .before .before .before .before .before in
     let a = s .args in
+    let less = c .before .before .before .before .before .before .before .loop-test .taken in
     let b : a .e ≤ length (a .work .now) = omega arith in
-    let S = step-stop (a .coords .now) (a .tol) (head s) (marked (a .k) (a .work .now)) (a .work .now) (at .loop .j) (a .e) (c .before .before .before .before .before .before .before .loop-test .taken) b (sym (skips (c .before .before .before .before)) ∙ c .before .before .before .if1 .left) (sym (fars (c .before)) ∙ c .if2 .taken) in (
+    let S = step-stop (a .coords .now) (a .tol) (head s) (marked (a .k) (a .work .now)) (a .work .now) (at .loop .j) (a .e) less b (sym (skips (c .before)) ∙ c .if2 .left) (sym (fars (c .before .before .before .before)) ∙ c .before .before .before .if1 .taken) in (
       sym (add-zero (at .loop .last + 1)) ∙ ap (λ (r : List ℕ). at .loop .last + 1 + length r) (sym S) ∙ at .loop .inv .7,
       ap (sets (at .loop .work) (at .loop .last + 1)) (sym S) ∙ at .loop .inv .8,
     )
 
 near-requires : tie.Need-near-requires Inv-loop μ-loop
 near-requires c κs = search needs
+
+taken-requires-2 : tie.Need-taken-requires-2 Inv-loop μ-loop
+taken-requires-2 c κs = let h = next-node (c .before .before .before .before .before .before .before) in omega arith
+
+add-j-2 : tie.Need-add-j-2 Inv-loop μ-loop
+add-j-2 c = search needs
+
+loop-less-2 : tie.Need-loop-less-2 Inv-loop μ-loop
+loop-less-2 c = search needs
+
+loop-again-2 : tie.Need-loop-again-2 Inv-loop μ-loop
+loop-again-2 c =
+    let at = c .before .before .before .before .before .before .before .before .before .before in
+    let s = at .before .before .before .before .before in
+    let a = s .args in
+    let less = c .before .before .before .before .before .before .before .before .before .loop-test .taken in
+    let b : a .e ≤ length (a .work .now) = omega arith in
+    let S = step-skip (a .coords .now) (a .tol) (head s) (marked (a .k) (a .work .now)) (a .work .now) (at .loop .j) (a .e) less b (sym (skips-2 (c .before)) ∙ c .if4 .taken) in (
+      omega arith,
+      omega (arith, less),
+      omega arith,
+      omega arith,
+      at .loop .inv .4,
+      at .loop .inv .5,
+      at .loop .inv .6,
+      ap (λ (r : List ℕ). at .loop .last + 1 + length r) (sym S) ∙ at .loop .inv .7,
+      ap (sets (at .loop .work) (at .loop .last + 1)) (sym S) ∙ at .loop .inv .8,
+    )
 
 add-work : tie.Need-add-work Inv-loop μ-loop
 add-work c = search needs
@@ -141,32 +178,6 @@ slice-write-work c = search needs
 add-last : tie.Need-add-last Inv-loop μ-loop
 add-last c = search needs
 
-add-j-2 : tie.Need-add-j-2 Inv-loop μ-loop
-add-j-2 c = search needs
-
-loop-less-2 : tie.Need-loop-less-2 Inv-loop μ-loop
-loop-less-2 c = search needs
-
-loop-again-2 : tie.Need-loop-again-2 Inv-loop μ-loop
-loop-again-2 c =
-    let at = c .before .before .before .before .before .before .before .before .before .before in
-    let s = at .before .before .before .before .before in
-    let a = s .args in
-    let x = getD (at .loop .work) (at .loop .j) 0 in
-    let less = c .before .before .before .before .before .before .before .before .before .loop-test .taken in
-    let b : a .e ≤ length (a .work .now) = omega arith in
-    let S = step-take (a .coords .now) (a .tol) (head s) (marked (a .k) (a .work .now)) (a .work .now) (at .loop .j) (a .e) less b (sym (skips (c .before .before .before .before .before .before)) ∙ c .before .before .before .before .before .if1 .left) (sym (fars (c .before .before .before)) ∙ c .before .before .if2 .left) (sym (nears (c .before)) ∙ c .if3 .taken) in (
-      omega arith,
-      omega (arith, less),
-      omega arith,
-      omega arith,
-      simp length-set (at .loop .inv .4),
-      take-set-le (a .g + 1) (at .loop .work) (at .loop .last + 1) x (omega arith) ∙ at .loop .inv .5,
-      drop-set-lt (a .k) (at .loop .work) (at .loop .last + 1) x (omega (arith, less)) ∙ at .loop .inv .6,
-      omega (arith, ap length S, at .loop .inv .7),
-      rw (add-one (at .loop .last + 1), next-kept (c .before .before .before .before .before .before .before .before .before)) (ap (sets (at .loop .work) (at .loop .last + 1)) (sym S) ∙ at .loop .inv .8),
-    )
-
 add-j-3 : tie.Need-add-j-3 Inv-loop μ-loop
 add-j-3 c = search needs
 
@@ -178,9 +189,35 @@ loop-again-3 c =
     let at = c .before .before .before .before .before .before .before .before .before .before in
     let s = at .before .before .before .before .before in
     let a = s .args in
+    let x = getD (at .loop .work) (at .loop .j) 0 in
     let less = c .before .before .before .before .before .before .before .before .before .loop-test .taken in
     let b : a .e ≤ length (a .work .now) = omega arith in
-    let S = step-pass (a .coords .now) (a .tol) (head s) (marked (a .k) (a .work .now)) (a .work .now) (at .loop .j) (a .e) less b (sym (skips (c .before .before .before .before .before .before)) ∙ c .before .before .before .before .before .if1 .left) (sym (fars (c .before .before .before)) ∙ c .before .before .if2 .left) (sym (nears (c .before)) ∙ c .if3 .left) in (
+    let S = step-take (a .coords .now) (a .tol) (head s) (marked (a .k) (a .work .now)) (a .work .now) (at .loop .j) (a .e) less b (sym (skips-2 (c .before)) ∙ c .if4 .left) (sym (fars (c .before .before .before .before .before .before)) ∙ c .before .before .before .before .before .if1 .left) (sym (nears (c .before .before .before .before)) ∙ c .before .before .before .if3 .taken) in (
+      omega arith,
+      omega (arith, less),
+      omega arith,
+      omega arith,
+      simp length-set (at .loop .inv .4),
+      take-set-le (a .g + 1) (at .loop .work) (at .loop .last + 1) x (omega arith) ∙ at .loop .inv .5,
+      drop-set-lt (a .k) (at .loop .work) (at .loop .last + 1) x (omega (arith, less)) ∙ at .loop .inv .6,
+      omega (arith, ap length S, at .loop .inv .7),
+      rw (add-one (at .loop .last + 1), next-kept (c .before .before .before .before .before .before .before .before .before)) (ap (sets (at .loop .work) (at .loop .last + 1)) (sym S) ∙ at .loop .inv .8),
+    )
+
+add-j-4 : tie.Need-add-j-4 Inv-loop μ-loop
+add-j-4 c = search needs
+
+loop-less-4 : tie.Need-loop-less-4 Inv-loop μ-loop
+loop-less-4 c = search needs
+
+loop-again-4 : tie.Need-loop-again-4 Inv-loop μ-loop
+loop-again-4 c =
+    let at = c .before .before .before .before .before .before .before in
+    let s = at .before .before .before .before .before in
+    let a = s .args in
+    let less = c .before .before .before .before .before .before .loop-test .taken in
+    let b : a .e ≤ length (a .work .now) = omega arith in
+    let S = step-pass (a .coords .now) (a .tol) (head s) (marked (a .k) (a .work .now)) (a .work .now) (at .loop .j) (a .e) less b (sym (fars (c .before .before .before)) ∙ c .before .before .if1 .left) (sym (nears (c .before)) ∙ c .if3 .left) in (
       omega arith,
       omega (arith, less),
       omega arith,
@@ -220,26 +257,30 @@ takes-spec =
     loop-holds
     mul-n
     slice-read-n
+    point3-requires-2
+    far-requires
     taken-requires
     add-j
     loop-less
     loop-again
-    point3-requires-2
-    far-requires
     add-result
     same-length
     returns
     near-requires
+    taken-requires-2
+    add-j-2
+    loop-less-2
+    loop-again-2
     add-work
     mul-work
     slice-write-work
     add-last
-    add-j-2
-    loop-less-2
-    loop-again-2
     add-j-3
     loop-less-3
     loop-again-3
+    add-j-4
+    loop-less-4
+    loop-again-4
     add-result-2
     same-length-2
     returns-2)
