@@ -1,18 +1,17 @@
 -- A search from j up to n: one turn, a find, and the end.
 use mathlib.Core.Path.{_≡_, ap}
-use mathlib.Core.Bool.{Bool, true, false, cond}
+use mathlib.Core.Bool.{Bool, true, false}
 use mathlib.Core.List.{List}
 use Prim.Native.Nat.{ℕ, suc, _+_, _-_, _%_, _<_, _≤_}
-use native.Mathlib.Nat.{mod-eq-of-lt, mod-self}
+use native.Mathlib.Nat.{mod-lt}
 use native.Mathlib.Omega.{arith}
 use lib.ListN.{length, getD}
 use lib.Ieee.{Float}
 use borrow.Author.Tests.{lt-ltb, le-ltb}
-use Rattle.geometry.specs.declared.Point.{Point}
 use Rattle.geometry.specs.Points.{pointAt, pointsOf}
 use Rattle.geometry.specs.Scale.{scaleOf, epsOf}
 use Rattle.bow_tie.specs.Edges.{edgesMeet}
-use Rattle.bow_tie.specs.BowTie.{anyFrom, corner, following, firstAndLast, pairMeets, laterMeets, bowTieOf}
+use Rattle.bow_tie.specs.BowTie.{anyFrom, following, firstAndLast, pairMeets, laterMeets, bowTieOf}
 use Rattle.geometry.proofs.Listed.{points-length, points-at}
 
 -- one number less to search
@@ -58,27 +57,18 @@ whole tol c ks h = simp (points-length, le-ltb (length ks) 4 h) (ap (λ (n : ℕ
 
 -- ---- two edges of a ring
 
--- corner j, and corner 0 where j is their number
-abbrev pub turned : List Point → ℕ → Point
-turned ps j = corner ps (j % length ps)
-
--- corner j is the point of the node there
-pub turned-at : (c : List Float) (ks : List ℕ) (j : ℕ) → j < length ks → turned (pointsOf c ks) j ≡ pointAt c (getD ks j 0)
-turned-at c ks j h = rw (points-length c ks, mod-eq-of-lt h, points-at c ks j h)
-
--- edges i and j by their ends
-pub ends-meet : (eps : Float) (c : List Float) (ks : List ℕ) (i j : ℕ) {p q s t : Point} → i < length ks → j < length ks
-    → p ≡ pointAt c (getD ks i 0) → q ≡ following (pointsOf c ks) i → s ≡ turned (pointsOf c ks) j → t ≡ following (pointsOf c ks) j
-    → cond (firstAndLast (length ks) i j) false (edgesMeet eps p q s t) ≡ pairMeets eps (pointsOf c ks) i j
+-- the first and the last edge
+pub neighbours : (eps : Float) (c : List Float) (ks : List ℕ) (i j : ℕ) → firstAndLast (length ks) i j ≡ true → false ≡ pairMeets eps (pointsOf c ks) i j
 unfolding pairMeets
-ends-meet eps c ks i j hi hj p q s t = rw (p, q, s, t, turned-at c ks j hj, points-length c ks, points-at c ks i hi, points-at c ks j hj)
+neighbours eps c ks i j t = simp (points-length, t)
 
--- where an edge that is not the last ends
-pub follows : (c : List Float) (ks : List ℕ) (i : ℕ) → i + 1 < length ks → pointAt c (getD ks (i + 1) 0) ≡ following (pointsOf c ks) i
-follows c ks i h = rw (points-length c ks, mod-eq-of-lt h, points-at c ks (i + 1) h)
+-- any other two edges
+pub strangers : (eps : Float) (c : List Float) (ks : List ℕ) (i j : ℕ) → i < length ks → j < length ks → firstAndLast (length ks) i j ≡ false
+    → pairMeets eps (pointsOf c ks) i j
+    ≡ edgesMeet eps (pointAt c (getD ks i 0)) (following (pointsOf c ks) i) (pointAt c (getD ks j 0)) (following (pointsOf c ks) j)
+unfolding pairMeets
+strangers eps c ks i j hi hj t = rw (points-length c ks, t, points-at c ks i hi, points-at c ks j hj)
 
--- where the last edge ends
-pub closes : (c : List Float) (ks : List ℕ) (i : ℕ) → i < length ks → length ks ≤ i + 1 → pointAt c (getD ks 0 0) ≡ following (pointsOf c ks) i
-closes c ks i h e =
-    let n : i + 1 ≡ length ks = omega arith in
-    rw (points-length c ks, n, mod-self (length ks), points-at c ks 0 (omega arith))
+-- where edge i ends
+pub follows : (c : List Float) (ks : List ℕ) (i : ℕ) → i < length ks → pointAt c (getD ks ((i + 1) % length ks) 0) ≡ following (pointsOf c ks) i
+follows c ks i h = rw (points-length c ks, points-at c ks ((i + 1) % length ks) (mod-lt (i + 1) (omega arith)))

@@ -1,13 +1,11 @@
 // The meeting of two edges, and the bow-tie test of a ring. Each float expression is that of the Rust, in its order.
 ghost use mathlib.Core.Path.{_≡_};
-ghost use mathlib.Core.Bool.{false, cond};
 ghost use Prim.Native.Nat.{_<_, _≤_};
-ghost use lib.ListN.{length};
-ghost use lib.Ieee.{binary64, sub, mul, div};
-ghost use Rattle.geometry.specs.Points.{pointsOf};
+ghost use lib.ListN.{length, getD};
+ghost use Rattle.geometry.specs.Points.{pointAt, pointsOf};
 ghost use Rattle.geometry.specs.Steps.{InNodes};
 ghost use Rattle.bow_tie.specs.Edges.{placeOf, parallelOf, crossingOf, meetingOf, slackOf, onEdge, near, reaches, touchOf, edgesMeet};
-ghost use Rattle.bow_tie.specs.BowTie.{following, firstAndLast, laterMeets, bowTieOf};
+ghost use Rattle.bow_tie.specs.BowTie.{following, firstAndLast, pairMeets, laterMeets, bowTieOf};
 use geometry::Point;
 
 const EPSILON: f64 = 2.220446049250313e-16;
@@ -58,15 +56,13 @@ fn span_reaches(slack: f64, lo: f64, hi: f64) -> bool
     from & to
 }
 
-// The meeting of edges that are not parallel; the place on the second is sought only where that on the first is on its edge.
-fn crossing(a11: f64, a12: f64, a22: f64, b1: f64, b2: f64, denom: f64) -> Meeting
-    ensures { λ r. ⌜ r ≡ crossingOf (div binary64 (sub binary64 (mul binary64 a12 b2) (mul binary64 a22 b1)) denom) (div binary64 (sub binary64 (mul binary64 a11 b2) (mul binary64 a12 b1)) denom) ⌝ }
+// The meeting of edges that are not parallel.
+fn crossing(s: f64, t: f64) -> Meeting
+    ensures { λ r. ⌜ r ≡ crossingOf s t ⌝ }
 {
-    let s = (a12 * b2 - a22 * b1) / denom;
     if !span_reaches(TINY, s, s) {
         return Meeting::None;
     }
-    let t = (a11 * b2 - a12 * b1) / denom;
     if !span_reaches(TINY, t, t) {
         return Meeting::None;
     }
@@ -95,7 +91,7 @@ pub fn meet(a: Point, b: Point, c: Point, d: Point, eps: f64) -> Meeting
     if denom <= 64.0 * EPSILON * a11 * a22 {
         return parallel(eps, a, d1, a11, c, d);
     }
-    crossing(a11, a12, a22, b1, b2, denom)
+    crossing((a12 * b2 - a22 * b1) / denom, (a11 * b2 - a12 * b1) / denom)
 }
 
 // eps as a part of the length of a - b.
@@ -145,11 +141,8 @@ fn following_at(coords: &[f64], ring: &[u32], i: usize) -> Point
     requires { ⌜ InNodes (now coords) (now ring) × (i < length (now ring)) ⌝ }
     ensures { λ r. ⌜ r ≡ following (pointsOf (now (coords .entry)) (now (ring .entry))) i ⌝ }
 {
-    let j = i + 1;
-    if j < ring.len() {
-        return geometry::point3(coords, ring[j]);
-    }
-    geometry::point3(coords, ring[0])
+    let j = (i + 1) % ring.len();
+    geometry::point3(coords, ring[j])
 }
 
 // Edges i and j are the first and the last of n, which are neighbours.
@@ -162,44 +155,43 @@ fn first_and_last(n: usize, i: usize, j: usize) -> bool
     first & last
 }
 
-// Edges i, which is a - b, and j, which is c - d, of n edges meet and are not the first and the last.
+// Edges i, which is a - b, and j meet and are not the first and the last.
 fn pair_meets(
-    n: usize,
+    coords: &[f64],
+    ring: &[u32],
     eps: f64,
     a: Point,
     b: Point,
-    c: Point,
-    d: Point,
     i: usize,
     j: usize,
 ) -> bool
-    requires { ⌜ j < n ⌝ }
-    ensures { λ r. ⌜ r ≡ cond (firstAndLast n i j) false (edgesMeet eps a b c d) ⌝ }
+    requires { ⌜ InNodes (now coords) (now ring) × (i < length (now ring)) × (j < length (now ring)) × (a ≡ pointAt (now coords) (getD (now ring) i 0)) × (b ≡ following (pointsOf (now coords) (now ring)) i) ⌝ }
+    ensures { λ r. ⌜ r ≡ pairMeets eps (pointsOf (now (coords .entry)) (now (ring .entry))) i j ⌝ }
 {
-    if first_and_last(n, i, j) {
+    if first_and_last(ring.len(), i, j) {
         return false;
     }
-    segments_intersect3(a, b, c, d, eps)
+    segments_intersect3(
+        a,
+        b,
+        geometry::point3(coords, ring[j]),
+        following_at(coords, ring, j),
+        eps,
+    )
 }
 
-// Edge i meets a later one. The end of edge j, d, is the start of the next one.
+// Edge i meets a later one.
 fn later_meets(coords: &[f64], ring: &[u32], eps: f64, i: usize) -> bool
     requires { ⌜ InNodes (now coords) (now ring) × (i < length (now ring)) × (length (now ring) ≤ 64) ⌝ }
     ensures { λ r. ⌜ r ≡ laterMeets eps (pointsOf (now (coords .entry)) (now (ring .entry))) i ⌝ }
 {
-    let mut j = i + 2;
-    if ring.len() <= j {
-        return false;
-    }
     let a = geometry::point3(coords, ring[i]);
     let b = following_at(coords, ring, i);
-    let mut c = geometry::point3(coords, ring[j]);
+    let mut j = i + 2;
     while j < ring.len() {
-        let d = following_at(coords, ring, j);
-        if pair_meets(ring.len(), eps, a, b, c, d, i, j) {
+        if pair_meets(coords, ring, eps, a, b, i, j) {
             return true;
         }
-        c = d;
         j += 1;
     }
     false

@@ -1,49 +1,33 @@
--- `bow_tie::following_at` meets its contract: an edge before the last, and the last.
+-- `bow_tie::following_at` meets its contract: the remainder is below the length.
 use mathlib.Core.Path.{_∙_}
-use Prim.Native.Nat.{_+_}
+use Prim.Native.Nat.{_+_, _%_}
 use native.Mathlib.Omega.{arith}
+use native.Mathlib.Nat.{mod-lt}
+use lib.ListN.{length}
 use borrow.Author.Needs.{needs}
-use Rattle.bow_tie.proofs.Sought.{follows, closes}
+use Rattle.bow_tie.proofs.Sought.{follows}
 use Rattle.bow_tie.proofs.following_at.Statement.{statement}
 use Rattle.bow_tie.proofs.following_at.Tie as tie
 
 add-j : tie.Need-add-j
 add-j c = search needs
 
+rem-j : tie.Need-rem-j
+rem-j c = search needs
+
 mul-point3 : tie.Need-mul-point3
-mul-point3 c = search needs
+mul-point3 c = search (needs, mod-lt (c .before .before .args .i + 1) {m = length (c .before .before .args .ring .now)} (omega arith))
 
 shared-slice-read-point3 : tie.Need-shared-slice-read-point3
-shared-slice-read-point3 c = search needs
+shared-slice-read-point3 c = mod-lt (c .before .before .before .args .i + 1) {m = length (c .before .before .before .args .ring .now)} (omega arith)
 
 point3-requires : tie.Need-point3-requires
-point3-requires c κs = let s = c .before .before .before .before in s .pre .0 (s .args .i + 1) (c .before .if1 .taken)
+point3-requires c κs = c .before .before .before .pre .0 ((c .before .before .before .args .i + 1) % length (c .before .before .before .args .ring .now)) (mod-lt (c .before .before .before .args .i + 1) {m = length (c .before .before .before .args .ring .now)} (omega arith))
 
 returns : tie.Need-returns
-returns c =
-    let a = c .before .before .before .before .before .args in
-    c .point3 .ensures ∙ follows (a .coords .now) (a .ring .now) (a .i) (c .before .before .if1 .taken)
-
-shared-slice-read-point3-2 : tie.Need-shared-slice-read-point3-2
-shared-slice-read-point3-2 c = search needs
-
-point3-requires-2 : tie.Need-point3-requires-2
-point3-requires-2 c κs = let s = c .before .before .before .before in s .pre .0 0 (omega (arith, s .pre .1))
-
-returns-2 : tie.Need-returns-2
-returns-2 c =
-    let s = c .before .before .before .before .before in
-    c .point32 .ensures ∙ closes (s .args .coords .now) (s .args .ring .now) (s .args .i) (s .pre .1) (c .before .before .if1 .left)
+returns c = c .point3 .ensures ∙ follows (c .before .before .before .before .args .coords .now) (c .before .before .before .before .args .ring .now) (c .before .before .before .before .args .i) (c .before .before .before .before .pre .1)
 
 pub following-at-spec : {M : Type 1} → statement M
 following-at-spec =
     tie.close
-    (tie.spec
-    add-j
-    mul-point3
-    shared-slice-read-point3
-    point3-requires
-    returns
-    shared-slice-read-point3-2
-    point3-requires-2
-    returns-2)
+    (tie.spec add-j rem-j mul-point3 shared-slice-read-point3 point3-requires returns)

@@ -1,27 +1,19 @@
--- `bow_tie::later_meets` meets its contract. The invariant: a later edge that meets is among those left if there is one at all, and c is where edge j starts.
-use Prim.Native.Nat.{_+_, _-_}
+-- `bow_tie::later_meets` meets its contract. The invariant: a later edge that meets is among those left if there is one at all.
+use Prim.Native.Nat.{_-_}
 use mathlib.Core.Path.{_≡_, sym, _∙_}
 use lib.ListN.{length}
 use Rattle.geometry.specs.Points.{pointsOf}
 use Rattle.bow_tie.specs.BowTie.{anyFrom, pairMeets, laterMeets}
-use Rattle.bow_tie.proofs.Sought.{any-skip, any-found, any-end, later, turned, turned-at, ends-meet}
+use Rattle.bow_tie.proofs.Sought.{any-skip, any-found, any-end, later}
 use borrow.Author.Needs.{needs}
 use Rattle.bow_tie.proofs.later_meets.Statement.{statement}
 use Rattle.bow_tie.proofs.later_meets.Tie as tie
 
 abbrev Inv-loop : tie.InvT-loop
-Inv-loop coords ring eps i j₀ a b c₀ j c = (anyFrom (pairMeets eps (pointsOf coords ring) i) (length ring - j) j ≡ laterMeets eps (pointsOf coords ring) i) × (c ≡ turned (pointsOf coords ring) j)
+Inv-loop coords ring eps i a b j₀ j = anyFrom (pairMeets eps (pointsOf coords ring) i) (length ring - j) j ≡ laterMeets eps (pointsOf coords ring) i
 
 abbrev μ-loop : tie.MeasureT-loop
-μ-loop coords ring eps i j₀ a b c₀ j c = length ring - j
-
-add-j : tie.Need-add-j Inv-loop μ-loop
-add-j c = search needs
-
-returns : tie.Need-returns Inv-loop μ-loop
-returns c =
-    let a = c .before .before .before .args in
-    sym (later (a .eps) (a .coords .now) (a .ring .now) (a .i) ∙ any-end (pairMeets (a .eps) (pointsOf (a .coords .now) (a .ring .now)) (a .i)) (length (a .ring .now)) (a .i + 2) (c .if1 .taken))
+μ-loop coords ring eps i a b j₀ j = length ring - j
 
 mul-point3 : tie.Need-mul-point3 Inv-loop μ-loop
 mul-point3 c = search needs
@@ -30,39 +22,25 @@ shared-slice-read-point3 : tie.Need-shared-slice-read-point3 Inv-loop μ-loop
 shared-slice-read-point3 c = search needs
 
 point3-requires : tie.Need-point3-requires Inv-loop μ-loop
-point3-requires c κs = let s = c .before .before .before .before in s .pre .0 (s .args .i) (s .pre .1)
+point3-requires c κs = let s = c .before .before .before in s .pre .0 (s .args .i) (s .pre .1)
 
 following-at-requires : tie.Need-following-at-requires Inv-loop μ-loop
 following-at-requires c κs = search needs
 
-mul-point3-2 : tie.Need-mul-point3-2 Inv-loop μ-loop
-mul-point3-2 c = search needs
-
-shared-slice-read-point3-2 : tie.Need-shared-slice-read-point3-2 Inv-loop μ-loop
-shared-slice-read-point3-2 c = search needs
-
-point3-requires-2 : tie.Need-point3-requires-2 Inv-loop μ-loop
-point3-requires-2 c κs = let s = c .before .before .before .before .before .before .before in s .pre .0 (s .args .i + 2) (c .before .before .before .before .if1 .left)
+add-j : tie.Need-add-j Inv-loop μ-loop
+add-j c = search needs
 
 loop-holds : tie.Need-loop-holds Inv-loop μ-loop
-loop-holds c =
-    let a = c .before .before .before .before .before .before .before .before .args in
-    (sym (later (a .eps) (a .coords .now) (a .ring .now) (a .i)), c .point32 .ensures ∙ sym (turned-at (a .coords .now) (a .ring .now) (a .i + 2) (c .before .before .before .before .before .if1 .left)))
-
-following-at-requires-2 : tie.Need-following-at-requires-2 Inv-loop μ-loop
-following-at-requires-2 c κs = search needs
+loop-holds c = let a = c .before .before .before .before .before .args in sym (later (a .eps) (a .coords .now) (a .ring .now) (a .i))
 
 pair-meets-requires : tie.Need-pair-meets-requires Inv-loop μ-loop
-pair-meets-requires c κs = search needs
+pair-meets-requires c κs = let s = c .before .before .before .before .before .before .before in (s .pre .0, s .pre .1, c .loop-test .taken, c .before .before .before .point3 .ensures, c .before .before .following-at .ensures)
 
-returns-2 : tie.Need-returns-2 Inv-loop μ-loop
-returns-2 c =
-    let s = c .before .before .before .before .before .before .before .before .before .before .before .before .before in
-    let a = s .args in
-    let l = c .before .before .before .before .loop in
-    let j = c .before .before .before .loop-test .taken in
-    let e = ends-meet (a .eps) (a .coords .now) (a .ring .now) (a .i) (l .j) (s .pre .1) j (c .before .before .before .before .before .before .before .before .point3 .ensures) (c .before .before .before .before .before .before .before .following-at .ensures) (l .inv .1) (c .before .before .following-at2 .ensures) in
-    sym (any-found (pairMeets (a .eps) (pointsOf (a .coords .now) (a .ring .now)) (a .i)) (length (a .ring .now)) (l .j) j (sym e ∙ sym (c .before .pair-meets .ensures) ∙ c .if2 .taken)) ∙ l .inv .0
+returns : tie.Need-returns Inv-loop μ-loop
+returns c =
+    let a = c .before .before .before .before .before .before .before .before .before .args in
+    let l = c .before .before .before .loop in
+    sym (any-found (pairMeets (a .eps) (pointsOf (a .coords .now) (a .ring .now)) (a .i)) (length (a .ring .now)) (l .j) (c .before .before .loop-test .taken) (sym (c .before .pair-meets .ensures) ∙ c .if1 .taken)) ∙ l .inv
 
 add-j-2 : tie.Need-add-j-2 Inv-loop μ-loop
 add-j-2 c = search needs
@@ -72,18 +50,15 @@ loop-less c = search needs
 
 loop-again : tie.Need-loop-again Inv-loop μ-loop
 loop-again c =
-    let s = c .before .before .before .before .before .before .before .before .before .before .before .before .before in
-    let a = s .args in
-    let l = c .before .before .before .before .loop in
-    let j = c .before .before .before .loop-test .taken in
-    let e = ends-meet (a .eps) (a .coords .now) (a .ring .now) (a .i) (l .j) (s .pre .1) j (c .before .before .before .before .before .before .before .before .point3 .ensures) (c .before .before .before .before .before .before .before .following-at .ensures) (l .inv .1) (c .before .before .following-at2 .ensures) in
-    (sym (any-skip (pairMeets (a .eps) (pointsOf (a .coords .now) (a .ring .now)) (a .i)) (length (a .ring .now)) (l .j) j (sym e ∙ sym (c .before .pair-meets .ensures) ∙ c .if2 .left)) ∙ l .inv .0, c .before .before .following-at2 .ensures)
+    let a = c .before .before .before .before .before .before .before .before .before .args in
+    let l = c .before .before .before .loop in
+    sym (any-skip (pairMeets (a .eps) (pointsOf (a .coords .now) (a .ring .now)) (a .i)) (length (a .ring .now)) (l .j) (c .before .before .loop-test .taken) (sym (c .before .pair-meets .ensures) ∙ c .if1 .left)) ∙ l .inv
 
-returns-3 : tie.Need-returns-3 Inv-loop μ-loop
-returns-3 c =
-    let a = c .before .before .before .before .before .before .before .before .before .before .args in
+returns-2 : tie.Need-returns-2 Inv-loop μ-loop
+returns-2 c =
+    let a = c .before .before .before .before .before .before .before .args in
     let l = c .before .loop in
-    sym (any-end (pairMeets (a .eps) (pointsOf (a .coords .now) (a .ring .now)) (a .i)) (length (a .ring .now)) (l .j) (c .loop-test .left)) ∙ l .inv .0
+    sym (any-end (pairMeets (a .eps) (pointsOf (a .coords .now) (a .ring .now)) (a .i)) (length (a .ring .now)) (l .j) (c .loop-test .left)) ∙ l .inv
 
 pub later-meets-spec : {M : Type 1} → statement M
 later-meets-spec =
@@ -91,20 +66,15 @@ later-meets-spec =
     (tie.spec
     Inv-loop
     μ-loop
-    add-j
-    returns
     mul-point3
     shared-slice-read-point3
     point3-requires
     following-at-requires
-    mul-point3-2
-    shared-slice-read-point3-2
-    point3-requires-2
+    add-j
     loop-holds
-    following-at-requires-2
     pair-meets-requires
-    returns-2
+    returns
     add-j-2
     loop-less
     loop-again
-    returns-3)
+    returns-2)
