@@ -5,7 +5,7 @@ use mathlib.Core.List.{List, [], _∷_, _++_, map, append-nil, append-assoc, map
 use native.Mathlib.Omega.{arith}
 use lib.ListN.{length, getD, take}
 use lib.Seq.{length-sets, take-suc, take-all, take-take, getD-take}
-use Rattle.laws.specs.Lists.{each, keep, upFrom}
+use Rattle.laws.specs.Lists.{keep, upFrom}
 use Rattle.laws.specs.Merging.{region}
 use Rattle.laws.proofs.Bounds.{below-at, below-upFrom, below-keep}
 use Rattle.laws.proofs.ListLaws.{keep-append, keep-length, length-upFrom}

@@ -254,8 +254,8 @@ fn seek_short(
     walk_rare(work, at, by, lo, n, s, e)
 }
 
-// By node triples. A face has each triple of its nodes once, and meets every face of it: a triple of a short face has a list of its own,
-// one of a longer face lies in the list of the node that the fewest faces have. None where lo's cell is a bow-tie.
+// By node triples: every later face that has a triple of lo's nodes is met. Where both are short it stands in the list of the triple's
+// number, else in that of a node of the triple that is not left out. None where lo's cell is a bow-tie.
 pub fn seek_by_triples(work: &mut [u32], at: index::Places, by: index::Places, lo: usize) -> usize
     requires { ⌜ Ready at lo (now work) × Keyed at by (base at (now work)) ⌝ }
     ensures { λ r. ⌜ Sought at lo (now (work .entry)) (now (work .exit)) r ⌝ }
