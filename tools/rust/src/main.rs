@@ -25,7 +25,7 @@ use std::process::exit;
 
 const USAGE: &str = "\
 compare compare [--seed S] [--count N]   findings of both on N generated models (30,000) and large ones
-compare speed [--runs N]                 times of both on the same models, best of N runs (9)
+compare speed [--runs N] [--only MODEL]  times of both on the same models, best of N runs (9); files alone: --only files
 compare record FOLDER [--seed S]         small models with the reference's answers
 ";
 
@@ -44,12 +44,21 @@ fn option(args: &[String], name: &str, usual: u64) -> u64 {
         .unwrap_or_else(|| fail(&format!("{name} needs a number")))
 }
 
+/// The word behind an option, if it is there.
+fn word<'a>(args: &'a [String], name: &str) -> Option<&'a str> {
+    let at = args.iter().position(|a| a == name)?;
+    args.get(at + 1).map(String::as_str)
+}
+
 fn main() {
     let args: Vec<String> = std::env::args().skip(1).collect();
     let seed = option(&args, "--seed", 2026);
     let good = match args.first().map(String::as_str) {
         Some("compare") => compare::run(seed, option(&args, "--count", 30_000) as usize),
-        Some("speed") => speed::run(option(&args, "--runs", 9) as usize),
+        Some("speed") => {
+            let runs = option(&args, "--runs", 9) as usize;
+            speed::run(runs, word(&args, "--only"))
+        }
         Some("record") => match args.get(1) {
             Some(folder) => record::run(folder, seed),
             None => fail("a folder is missing"),

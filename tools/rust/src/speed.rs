@@ -163,14 +163,17 @@ fn print_files(runs: usize) {
     }
 }
 
-/// Prints a line for each model; the growth is 1 where time grows as the cells do.
-pub fn run(runs: usize) -> bool {
+/// Prints a line for each model, or for those whose names begin so; the growth is 1 where time grows as the cells do.
+pub fn run(runs: usize, only: Option<&str>) -> bool {
     way::set(Way::Unhooked);
     print!("{:<17} {:>6} {:>8}", "model", "cells", "findings");
     print!(" {:>10} {:>10} {:>8}", "Rust ms", "ours ms", "ratio");
     print!(" {:>10} {:>8}", "fresh ms", "ratio");
     println!(" {:>12} {:>12}", "Rust growth", "our growth");
     for [name, quarter] in MODELS {
+        if only.is_some_and(|o| !name.starts_with(o)) {
+            continue;
+        }
         let part = measure(quarter, runs);
         print_line(quarter, &part);
         println!();
@@ -180,6 +183,8 @@ pub fn run(runs: usize) -> bool {
         let growth = [whole.rust / part.rust, whole.ours / part.ours].map(|g| g / times);
         println!(" {:>12.2} {:>12.2}", growth[0], growth[1]);
     }
-    print_files(10 * runs);
+    if only.is_none_or(|o| o == "files") {
+        print_files(10 * runs);
+    }
     true
 }
