@@ -4,6 +4,7 @@ pub mod Squares
 pub mod Parts
 pub mod Halves
 pub mod Groups
+pub mod Between
 pub mod Marks
 pub mod Turn
 pub mod Whole

@@ -1,21 +1,23 @@
 -- From the sort, the cleared marks, the sweep and the settling to the welded numbers.
-use Prim.Native.Nat.{ℕ, _+_, _≤_, _<_}
+use Prim.Native.Nat.{ℕ, _+_, _-_, _≤_, _<_}
 use mathlib.Core.Path.{_≡_, sym, ap, ap₂, _∙_, subst}
 use mathlib.Core.Bool.{Bool, true, false, not, cond}
 use mathlib.Core.List.{List}
 use native.Mathlib.Omega.{arith}
 use lib.Dec.{eqb}
 use lib.Ieee.{Float, eq}
-use lib.ListN.{length, take, replicate, length-replicate, getD-replicate}
-use lib.Seq.{slice, sets, length-sets, take-take}
+use lib.ListN.{length, getD, take, replicate, length-replicate, getD-replicate}
+use lib.Seq.{slice, sets, length-sets, take-take, getD-drop, getD-take}
 use Rattle.laws.specs.Lists.{sort, upFrom}
 use Rattle.laws.specs.Merging.{region, AllBelow}
 use Rattle.laws.proofs.ListLaws.{length-upFrom}
 use Rattle.laws.proofs.Stores.{take-before, drop-after, region-before, region-same, length-region, slice-region, getD-within}
-use Rattle.laws.proofs.Sorting.{length-sort}
+use Rattle.laws.proofs.Sorting.{length-sort, sort-rises}
 use Rattle.floats.specs.Floats.{zero64}
 use Rattle.snap.specs.Weld.{beforeOf, groups, spread, welded}
-use Rattle.snap.specs.Steps.{But, both, marked, numbers, weldFrom}
+use Rattle.geometry.specs.Coordinates.{coordinatesOff}
+use Rattle.snap.specs.Steps.{But, both, InOrder, marked, numbers, weldFrom}
+use Rattle.snap.proofs.Order.{before-total}
 use Rattle.laws.proofs.Bounds.{below-sort}
 use Rattle.snap.proofs.Groups.{groups-ext, length-spread}
 use Rattle.snap.proofs.Marks.{numbers-none, length-numbers}
@@ -67,6 +69,18 @@ module _ (c : List Float) (t : Float) (l : List ℕ) (a s k n size : ℕ) (f : a
   -- they are nodes
   pub sorted-nodes : AllBelow size (slice a (a + n) l₂)
   sorted-nodes = rw sorted-run (below-sort (beforeOf c) size (region a n l) ns)
+
+  -- and stand in order
+  pub sorted-order : coordinatesOff c ≡ false → InOrder c a (a + n) l₂
+  sorted-order ok i j p q r =
+      rw (at i p (omega arith), at j (omega arith) r)
+      (sort-rises (beforeOf c) (before-total c ok) (region a n l) 0 (i - a) (j - a) (omega arith) (omega (arith, sorted-length)))
+    where
+      at : (x : ℕ) → a ≤ x → x < a + n → getD l₂ x 0 ≡ getD S (x - a) 0
+      at x u v =
+          let y : a + (x - a) ≡ x = omega arith in
+          sym (ap (λ (k : ℕ). getD l₂ k 0) y) ∙ sym (getD-take (a + n) l₂ (a + (x - a)) 0 (omega arith)) ∙ sym (getD-drop a (take (a + n) l₂) (x - a) 0)
+          ∙ ap (λ (r : List ℕ). getD r (x - a) 0) sorted-run
 
   -- no node is taken yet
   no-marks : (x : ℕ) → x < size → marked k l₂ x ≡ false

@@ -1,5 +1,6 @@
 // Welded numbers: nodes that lie within the tolerance of a leader get one number (`duplicates_dim_n`).
 mod node_order;
+mod passing;
 mod sweeping;
 
 ghost use mathlib.Core.Path.{_≡_};

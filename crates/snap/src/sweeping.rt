@@ -1,12 +1,14 @@
 // The sweep over sorted nodes: each that is not yet taken leads a group, whose nodes are marked with its smallest number.
 ghost use mathlib.Core.Path.{_≡_};
+ghost use mathlib.Core.Bool.{false};
 ghost use Prim.Native.Nat.{_+_, _-_, _^_, _≤_, _<_};
 ghost use lib.ListN.{length, getD};
 ghost use lib.Seq.{sets, slice};
 ghost use Rattle.laws.specs.Merging.{region, AllBelow};
-ghost use Rattle.geometry.specs.Coordinates.{nodeCount};
+ghost use Rattle.geometry.specs.Coordinates.{nodeCount, coordinatesOff};
 ghost use Rattle.snap.specs.Weld.{takes as takesOf, least as leastOf};
-ghost use Rattle.snap.specs.Steps.{But, farPoints, nearPoints, marked, putAll, numbers, weldFrom};
+ghost use Rattle.snap.specs.Steps.{But, farPoints, nearPoints, InOrder, marked, putAll, numbers, weldFrom};
+use crate::passing;
 use geometry::Point;
 
 // The x of b minus that of a exceeds the tolerance.
@@ -42,7 +44,7 @@ fn taken(work: &[u32], k: usize, n: u32) -> bool
 }
 
 // The node at g leads: those that it takes, among [i, e) of work, go right behind it, before the marks at k. Returns the group's end.
-// The mark of a node that is neither far nor near is not read: taken or not, it is passed by.
+// The mark of a node that is neither far nor near is not read: taken or not, it is passed over, with others that can be told from it.
 fn takes(
     coords: &[f64],
     tol: f64,
@@ -52,7 +54,7 @@ fn takes(
     g: usize,
     k: usize,
 ) -> usize
-    requires { ⌜ (i ≤ e) × (e ≤ g) × (g + 1 + (e - i) ≤ k) × (k + nodeCount (now coords) ≤ length (now work)) × (getD (now work) g 0 < nodeCount (now coords)) × AllBelow (nodeCount (now coords)) (slice i e (now work)) ⌝ }
+    requires { ⌜ (i ≤ e) × (e ≤ g) × (g + 1 + (e - i) ≤ k) × (k + nodeCount (now coords) ≤ length (now work)) × (getD (now work) g 0 < nodeCount (now coords)) × AllBelow (nodeCount (now coords)) (slice i e (now work)) × InOrder (now coords) i e (now work) × (coordinatesOff (now coords) ≡ false) ⌝ }
     ensures { λ r. ⌜ (r ≡ g + 1 + length (takesOf (now (coords .entry)) tol (getD (now (work .entry)) g 0) (marked k (now (work .entry))) (slice i e (now (work .entry))))) × (now (work .exit) ≡ sets (now (work .entry)) (g + 1) (takesOf (now (coords .entry)) tol (getD (now (work .entry)) g 0) (marked k (now (work .entry))) (slice i e (now (work .entry))))) ⌝ }
 {
     let leader = work[g];
@@ -77,7 +79,7 @@ fn takes(
                 j += 1;
             }
         } else {
-            j += 1;
+            j = passing::past(coords, tol, work, leader, j, e);
         }
     }
     last + 1
@@ -124,7 +126,7 @@ fn lead(
     k: usize,
     size: usize,
 )
-    requires { ⌜ (i < e) × (e ≤ g) × (g + (e - i) ≤ k) × (k + size ≤ length (now work)) × (size ≡ nodeCount (now coords)) × (size < 2 ^ 32) × AllBelow size (slice i e (now work)) ⌝ }
+    requires { ⌜ (i < e) × (e ≤ g) × (g + (e - i) ≤ k) × (k + size ≤ length (now work)) × (size ≡ nodeCount (now coords)) × (size < 2 ^ 32) × AllBelow size (slice i e (now work)) × InOrder (now coords) i e (now work) × (coordinatesOff (now coords) ≡ false) ⌝ }
     ensures { λ _. ⌜ (weldFrom (now (coords .entry)) tol k size (i + 1) e (now (work .exit)) ≡ weldFrom (now (coords .entry)) tol k size i e (now (work .entry))) × But g (k + size) (now (work .entry)) (now (work .exit)) ⌝ }
 {
     let p = work[i];
@@ -148,7 +150,7 @@ pub fn sweep(
     k: usize,
     size: usize,
 )
-    requires { ⌜ (o ≤ e) × (e ≤ g) × (g + (e - o) ≤ k) × (k + size ≤ length (now work)) × (size ≡ nodeCount (now coords)) × (size < 2 ^ 32) × AllBelow size (slice o e (now work)) ⌝ }
+    requires { ⌜ (o ≤ e) × (e ≤ g) × (g + (e - o) ≤ k) × (k + size ≤ length (now work)) × (size ≡ nodeCount (now coords)) × (size < 2 ^ 32) × AllBelow size (slice o e (now work)) × InOrder (now coords) o e (now work) × (coordinatesOff (now coords) ≡ false) ⌝ }
     ensures { λ _. ⌜ (numbers 0 (region k size (now (work .exit))) ≡ weldFrom (now (coords .entry)) tol k size o e (now (work .entry))) × But g (k + size) (now (work .entry)) (now (work .exit)) ⌝ }
 {
     let mut i = o;

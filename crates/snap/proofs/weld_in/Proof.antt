@@ -13,7 +13,7 @@ use Rattle.floats.specs.Floats.{zero64}
 use Rattle.snap.specs.Weld.{beforeOf}
 use Rattle.snap.specs.Steps.{both}
 use Rattle.floats.proofs.Constants.{zero-bits}
-use Rattle.snap.proofs.Whole.{run-but, sorted-nodes, settled, settled-but, unwelded}
+use Rattle.snap.proofs.Whole.{run-but, sorted-nodes, sorted-order, settled, settled-but, unwelded}
 use Rattle.snap.proofs.weld_in.Statement.{statement}
 use Rattle.snap.proofs.weld_in.Tie as tie
 
@@ -48,7 +48,7 @@ sweep-requires : tie.Need-sweep-requires
 sweep-requires c κs =
     let s = c .before .before .before .before .before .before .before .before .before .before .before .before in
     let p = s .pre in
-    (omega arith, omega arith, omega arith, omega arith, p .3, p .4, rw (ready (c .before .before .before)) (sorted-nodes (s .args .coords .now) (s .args .tol) (s .args .work .now) (s .args .a) (s .args .s) (s .args .k) (s .args .n) (s .args .size) (s .pre .0) (s .pre .1) (s .pre .2) (s .pre .5)))
+    (omega arith, omega arith, omega arith, omega arith, p .3, p .4, rw (ready (c .before .before .before)) (sorted-nodes (s .args .coords .now) (s .args .tol) (s .args .work .now) (s .args .a) (s .args .s) (s .args .k) (s .args .n) (s .args .size) (s .pre .0) (s .pre .1) (s .pre .2) (s .pre .5)), rw (ready (c .before .before .before)) (sorted-order (s .args .coords .now) (s .args .tol) (s .args .work .now) (s .args .a) (s .args .s) (s .args .k) (s .args .n) (s .args .size) (s .pre .0) (s .pre .1) (s .pre .2) (s .pre .5) (p .6)), p .6)
 
 settle-requires : tie.Need-settle-requires
 settle-requires c κs = search needs

@@ -10,6 +10,7 @@ use lib.Seq.{slice, sets, take-set-le}
 use Rattle.snap.specs.Weld.{least}
 use Rattle.laws.specs.Merging.{AllBelow}
 use Rattle.snap.proofs.Parts.{in-slice, slice-to, nodes-rest}
+use Rattle.snap.proofs.Between.{order-kept}
 use Rattle.snap.proofs.Turn.{group, stands, same-takes, group-length, group-nodes, group-run, least-node, turn-but, skipped, turn}
 use Rattle.snap.proofs.sweeping.lead.Statement.{statement}
 use Rattle.snap.proofs.sweeping.lead.Tie as tie
@@ -66,6 +67,8 @@ takes-requires c κs =
       omega (arith, length-set w (a .g) y, p .4),
       rw (stands (s .args .coords .now) (s .args .tol) (s .args .work .now) (s .args .i) (s .args .e) (s .args .g) (s .args .k) (s .args .size) (s .pre .0) (s .pre .1) (s .pre .2) (s .pre .3) (s .pre .6), ← p .4) (leader s .0),
       rw (slice-to (a .g) (a .i + 1) (a .e) (set w (a .g) y) w (take-set-le (a .g) w (a .g) y (omega arith)) (p .1), ← p .4) (nodes-rest _ (a .i) (a .i + 1) (a .e) w z (p .6)),
+      order-kept (a .coords .now) (a .g) (a .i) (a .i + 1) (a .e) (set w (a .g) y) w (take-set-le (a .g) w (a .g) y (omega arith)) (p .1) z (p .7),
+      p .8,
     )
 
 -- the group, where `takes` left it

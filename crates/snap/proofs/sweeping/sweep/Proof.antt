@@ -3,6 +3,7 @@ use Rattle.laws.specs.Merging.{region}
 use Rattle.snap.specs.Weld.{spread, groups}
 use Rattle.snap.specs.Steps.{weldFrom, But, marked, numbers}
 use Rattle.snap.proofs.Parts.{slice-none, slice-to, nodes-rest}
+use Rattle.snap.proofs.Between.{order-kept}
 use mathlib.Core.List.{List}
 use mathlib.Core.Path.{_≡_, refl, sym, ap, _∙_}
 use Prim.Native.Nat.{ℕ, _+_, _≤_, _-_}
@@ -35,6 +36,8 @@ lead-requires c κs =
       p .4,
       p .5,
       rw (slice-to (a .g) (at .loop .i) (a .e) (at .loop .work) (a .work .now) (v .3 .0) (p .1)) (nodes-rest _ (a .o) (at .loop .i) (a .e) (a .work .now) (v .0) (p .6)),
+      order-kept (a .coords .now) (a .g) (a .o) (at .loop .i) (a .e) (at .loop .work) (a .work .now) (v .3 .0) (p .1) (v .0) (p .7),
+      p .8,
     )
 
 add-i : tie.Need-add-i Inv-loop μ-loop

@@ -10,8 +10,9 @@ use lib.ListN.{length, getD, take, drop, length-set}
 use lib.Seq.{slice, sets, take-set-le, drop-set-lt}
 use Rattle.snap.specs.Weld.{takes, farOf, nearOf}
 use Rattle.snap.specs.Steps.{marked}
-use Rattle.snap.proofs.Parts.{in-slice, read-to, read-from}
-use Rattle.snap.proofs.Groups.{step-skip, step-stop, step-take, step-pass, takes-none}
+use Rattle.snap.proofs.Parts.{in-slice, slice-to, nodes-rest, read-to, read-from}
+use Rattle.snap.proofs.Groups.{step-skip, step-stop, step-take, takes-none}
+use Rattle.snap.proofs.Between.{takes-over, order-kept, passed-kept}
 use Rattle.snap.proofs.sweeping.takes.Statement.{statement}
 use Rattle.snap.proofs.sweeping.takes.Tie as tie
 
@@ -204,28 +205,44 @@ loop-again-3 c =
       rw (add-one (at .loop .last + 1), next-kept (c .before .before .before .before .before .before .before .before .before)) (ap (sets (at .loop .work) (at .loop .last + 1)) (sym S) ∙ at .loop .inv .8),
     )
 
-add-j-4 : tie.Need-add-j-4 Inv-loop μ-loop
-add-j-4 c = search needs
+past-requires : tie.Need-past-requires Inv-loop μ-loop
+past-requires c κs =
+    let at = c .before .before .before .before .before .before .before .before in
+    let s = at .before .before .before .before .before in
+    let a = s .args in
+    let v = at .loop .inv in
+    let l = c .before .before .before .before .before .before .before in (
+      l .loop-test .taken,
+      omega (arith, v .4),
+      s .pre .4,
+      rw (slice-to (a .g + 1) (at .loop .j) (a .e) (at .loop .work) (a .work .now) (v .5) (omega arith)) (nodes-rest _ (a .i) (at .loop .j) (a .e) (a .work .now) (v .0) (s .pre .5)),
+      order-kept (a .coords .now) (a .g + 1) (a .i) (at .loop .j) (a .e) (at .loop .work) (a .work .now) (v .5) (omega arith) (v .0) (s .pre .6),
+      s .pre .7,
+      rw (next-kept l) (sym (fars (c .before .before .before .before)) ∙ c .before .before .before .if1 .left),
+      rw (next-kept l) (sym (nears (c .before .before)) ∙ c .before .if3 .left),
+    )
 
 loop-less-4 : tie.Need-loop-less-4 Inv-loop μ-loop
-loop-less-4 c = search needs
+loop-less-4 c = let h = c .past .ensures in omega arith
 
 loop-again-4 : tie.Need-loop-again-4 Inv-loop μ-loop
 loop-again-4 c =
-    let at = c .before .before .before .before .before .before .before in
+    let at = c .before .before .before .before .before .before .before .before .before in
     let s = at .before .before .before .before .before in
     let a = s .args in
-    let less = c .before .before .before .before .before .before .loop-test .taken in
+    let r = c .past .result in
+    let h = c .past .ensures in
     let b : a .e ≤ length (a .work .now) = omega arith in
-    let S = step-pass (a .coords .now) (a .tol) (head s) (marked (a .k) (a .work .now)) (a .work .now) (at .loop .j) (a .e) less b (sym (fars (c .before .before .before)) ∙ c .before .before .if1 .left) (sym (nears (c .before)) ∙ c .if3 .left) in (
+    let o = passed-kept (a .coords .now) (a .tol) (head s) (a .g + 1) (at .loop .j) r (at .loop .work) (a .work .now) (at .loop .inv .5) (omega arith) (h .2) in
+    let S = takes-over (a .coords .now) (a .tol) (head s) (marked (a .k) (a .work .now)) (a .work .now) (at .loop .j) r (a .e) (omega arith) (h .1) b o in (
       omega arith,
-      omega (arith, less),
+      h .1,
       omega arith,
       omega arith,
       at .loop .inv .4,
       at .loop .inv .5,
       at .loop .inv .6,
-      ap (λ (r : List ℕ). at .loop .last + 1 + length r) (sym S) ∙ at .loop .inv .7,
+      ap (λ (x : List ℕ). at .loop .last + 1 + length x) (sym S) ∙ at .loop .inv .7,
       ap (sets (at .loop .work) (at .loop .last + 1)) (sym S) ∙ at .loop .inv .8,
     )
 
@@ -278,7 +295,7 @@ takes-spec =
     add-j-3
     loop-less-3
     loop-again-3
-    add-j-4
+    past-requires
     loop-less-4
     loop-again-4
     add-result-2

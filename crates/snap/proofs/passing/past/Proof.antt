@@ -1,0 +1,56 @@
+-- From j to the place that was reached all are passed over (Between).
+use Prim.Native.Nat.{_+_}
+use mathlib.Core.Path.{sym, _∙_}
+use native.Mathlib.Omega.{arith}
+use borrow.Author.Needs.{needs}
+use Rattle.snap.proofs.Parts.{in-slice}
+use Rattle.snap.proofs.Between.{all-passed}
+use Rattle.snap.proofs.passing.past.Statement.{statement}
+use Rattle.snap.proofs.passing.past.Tie as tie
+
+point3-requires : tie.Need-point3-requires
+point3-requires c κs = search needs
+
+mul-point3 : tie.Need-mul-point3
+mul-point3 c = search needs
+
+shared-slice-read-point3 : tie.Need-shared-slice-read-point3
+shared-slice-read-point3 c = search needs
+
+point3-requires-2 : tie.Need-point3-requires-2
+point3-requires-2 c κs =
+    let s = c .before .before .before .before in
+    let a = s .args in
+    let h = in-slice _ (a .j) (a .e) (a .j) (a .work .now) (s .pre .1) (s .pre .3) (omega arith) (s .pre .0) in
+    omega arith
+
+leap-requires : tie.Need-leap-requires
+leap-requires c κs = search needs
+
+land-requires : tie.Need-land-requires
+land-requires c κs = search needs
+
+add-result : tie.Need-add-result
+add-result c = search needs
+
+returns : tie.Need-returns
+returns c =
+    let s = c .before .before .before .before .before .before .before in
+    let a = s .args in
+    let p = s .pre in
+    let l = c .land .ensures in
+    let points = rw (c .before .before .point32 .ensures, c .before .before .before .before .point3 .ensures) at (l .2) in
+    (omega arith, omega arith, all-passed (a .coords .now) (p .5) (a .tol) (a .leader) (a .j) (c .land .result) (a .e) (a .work .now) (p .4) (l .0) (l .1) (p .6) (p .7) points)
+
+pub past-spec : {M : Type 1} → statement M
+past-spec =
+    tie.close
+    (tie.spec
+    point3-requires
+    mul-point3
+    shared-slice-read-point3
+    point3-requires-2
+    leap-requires
+    land-requires
+    add-result
+    returns)
