@@ -12,3 +12,5 @@ pub mod Monotone
 pub mod Over
 pub mod Bytes
 pub mod Constants
+pub mod Signed
+pub mod Differences
