@@ -1,19 +1,19 @@
 -- Runs of stores that write zeros, words and whole records.
-use Prim.Native.Nat.{ℕ, suc, _+_, _*_, _-_, _≤_, _<_}
+use Prim.Native.Nat.{ℕ, zero, suc, _+_, _*_, _-_, _≤_, _<_}
 use mathlib.Core.Path.{_≡_, sym, ap, ap₂, _∙_}
-use mathlib.Core.List.{List, _∷_, _++_}
+use mathlib.Core.List.{List, [], _∷_, _++_, append-assoc}
 use native.Mathlib.Nat.{add-zero, sub-zero}
 use native.Mathlib.Numerals.{add-one}
 use native.Mathlib.Omega.{arith}
-use lib.ListN.{length, getD, take, drop, set, replicate}
-use lib.Seq.{sets, drop-cons}
+use lib.ListN.{length, getD, take, drop, set, replicate, length-append, length-drop, length-replicate}
+use lib.Seq.{sets, sets-eq, drop-cons, drop-drop, take-add, length-take-le, take-append-seam, drop-append-add}
 use lib.Ieee.{Float}
 use Rattle.laws.specs.Bytes.{bytes}
+use Rattle.laws.proofs.ListLaws.{each-append}
 use Rattle.laws.proofs.Stores.{sets-append, sets-all}
 use Rattle.floats.specs.Floats.{floatBytes}
 use Rattle.model_file.specs.Records.{narrow, wordBytes, nodeRecord, wordRecord, lastRecord}
 use Rattle.model_file.proofs.Fields.{length-wordBytes}
-use Rattle.model_file.proofs.Layouts.{word-length}
 
 -- one turn of the loop over zeros, and its end
 module _ (l : List ℕ) (i e : ℕ) where
@@ -25,23 +25,57 @@ module _ (l : List ℕ) (i e : ℕ) where
   pub zeros-done : e ≤ i → sets l i (replicate (e - i) 0) ≡ l
   zeros-done h = let a : e - i ≡ 0 = omega arith in rw a
 
--- the loop over words: its start, a turn, its end
-pub words-none : (l ws : List ℕ) (from n : ℕ) → sets l 4 (wordBytes (take (n - 0) (drop (from + 0) ws))) ≡ sets l 4 (wordBytes (take n (drop from ws)))
-words-none l ws from n = rw (add-zero, sub-zero)
+-- ---- words, as bytes from a place on
 
-module _ (l ws : List ℕ) (from n j : ℕ) where
-  pub words-more : j < n → from + n ≤ length ws → (w : ℕ) → w ≡ narrow (getD ws (from + j) 0)
-      → sets (sets l (4 + 2 * j) (bytes 2 w)) (4 + 2 * (j + 1)) (wordBytes (take (n - (j + 1)) (drop (from + (j + 1)) ws))) ≡ sets l (4 + 2 * j) (wordBytes (take (n - j) (drop (from + j) ws)))
-  words-more h k w e =
-      let a : n - j ≡ suc (n - (j + 1)) = omega arith in
-      let b : 4 + 2 * (j + 1) ≡ suc (suc (4 + 2 * j)) = omega arith in
-      let d : from + (j + 1) ≡ suc (from + j) = omega arith in
-      let lt : from + j < length ws = omega arith in
-      sym (ap₂ (λ (x : ℕ) (y : List ℕ). sets l (4 + 2 * j) (wordBytes (take x y))) a (drop-cons ws (from + j) 0 lt)
-      ∙ (λ i. sets (sets l (4 + 2 * j) (bytes 2 (sym e i))) (sym b i) (wordBytes (take (n - (j + 1)) (drop (sym d i) ws)))))
+-- before the first
+pub words-none : (l ws : List ℕ) (at from n : ℕ) → sets l (at + 2 * 0) (wordBytes (take (n - 0) (drop (from + 0) ws))) ≡ sets l at (wordBytes (take n (drop from ws)))
+words-none l ws at from n = rw (add-zero at, sub-zero, add-zero from)
 
-  pub words-done : n ≤ j → sets l (4 + 2 * j) (wordBytes (take (n - j) (drop (from + j) ws))) ≡ l
+module _ (l ws : List ℕ) (at from n j : ℕ) where
+  -- k more behind j, then the rest
+  pub words-more : (k : ℕ) → j + k ≤ n → from + n ≤ length ws
+      → sets (sets l (at + 2 * j) (wordBytes (take k (drop (from + j) ws)))) (at + 2 * (j + k)) (wordBytes (take (n - (j + k)) (drop (from + (j + k)) ws))) ≡ sets l (at + 2 * j) (wordBytes (take (n - j) (drop (from + j) ws)))
+  words-more k h b =
+      let rest = drop (from + j) ws in
+      let m = n - (j + k) in
+      let a : n - j ≡ k + m = omega arith in
+      let d : from + j + k ≡ from + (j + k) = omega arith in
+      let long : length (wordBytes (take k rest)) ≡ 2 * k = length-wordBytes (take k rest) ∙ ap (λ (x : ℕ). 2 * x) (length-take-le k rest (omega (arith, length-drop (from + j) ws))) in
+      let p : at + 2 * j + length (wordBytes (take k rest)) ≡ at + 2 * (j + k) = omega arith in
+      sym (ap (λ (x : ℕ). sets l (at + 2 * j) (wordBytes (take x rest))) a
+      ∙ ap (λ (x : List ℕ). sets l (at + 2 * j) (wordBytes x)) (take-add k m rest)
+      ∙ ap (sets l (at + 2 * j)) (each-append (λ (w : ℕ). bytes 2 (narrow w)) (take k rest) (take m (drop k rest)))
+      ∙ sets-append l (at + 2 * j) (wordBytes (take k rest)) (wordBytes (take m (drop k rest)))
+      ∙ ap₂ (λ (x : ℕ) (y : List ℕ). sets (sets l (at + 2 * j) (wordBytes (take k rest))) x (wordBytes (take m y))) p (drop-drop k (from + j) ws ∙ ap (λ (x : ℕ). drop x ws) d))
+
+  -- after the last
+  pub words-done : n ≤ j → sets l (at + 2 * j) (wordBytes (take (n - j) (drop (from + j) ws))) ≡ l
   words-done h = let a : n - j ≡ 0 = omega arith in rw a
+
+-- the bytes of one
+pub one-word : (ws : List ℕ) (i w : ℕ) → i < length ws → w ≡ narrow (getD ws i 0) → bytes 2 w ≡ wordBytes (take 1 (drop i ws))
+one-word ws i w h e = ap (bytes 2) e ∙ ap (λ (x : List ℕ). wordBytes (take 1 x)) (sym (drop-cons ws i 0 h))
+
+-- four of a list
+four-from : (ws : List ℕ) (i : ℕ) → i + 4 ≤ length ws → drop i ws ≡ getD ws i 0 ∷ getD ws (i + 1) 0 ∷ getD ws (i + 2) 0 ∷ getD ws (i + 3) 0 ∷ drop (i + 4) ws
+four-from ws i h =
+    let at : (k : ℕ) → k < 4 → drop (i + k) ws ≡ getD ws (i + k) 0 ∷ drop (i + (k + 1)) ws =
+    λ k b. (let e : suc (i + k) ≡ i + (k + 1) = omega arith in drop-cons ws (i + k) 0 (omega arith) ∙ ap (λ (x : ℕ). getD ws (i + k) 0 ∷ drop x ws) e) in
+    ap (λ (x : ℕ). drop x ws) (sym (add-zero i)) ∙ rw (at 0 (omega arith), at 1 (omega arith), at 2 (omega arith), at 3 (omega arith), add-zero i)
+
+-- four put one by one
+pub four-put : (l l1 l2 l3 l4 ws : List ℕ) (at i a b c d : ℕ) → i + 4 ≤ length ws
+    → a ≡ narrow (getD ws i 0) → b ≡ narrow (getD ws (i + 1) 0) → c ≡ narrow (getD ws (i + 2) 0) → d ≡ narrow (getD ws (i + 3) 0)
+    → l1 ≡ sets l at (bytes 2 a) → l2 ≡ sets l1 (at + 2) (bytes 2 b) → l3 ≡ sets l2 (at + 4) (bytes 2 c) → l4 ≡ sets l3 (at + 6) (bytes 2 d)
+    → l4 ≡ sets l at (wordBytes (take 4 (drop i ws)))
+four-put l l1 l2 l3 l4 ws at i a b c d h ea eb ec ed e1 e2 e3 e4 =
+    let p2 : at + 2 ≡ suc (suc at) = omega arith in
+    let p4 : at + 4 ≡ suc (suc (suc (suc at))) = omega arith in
+    let p6 : at + 6 ≡ suc (suc (suc (suc (suc (suc at))))) = omega arith in
+    e4
+    ∙ ap (λ (x : List ℕ). sets x (at + 6) (bytes 2 d)) (e3 ∙ ap (λ (x : List ℕ). sets x (at + 4) (bytes 2 c)) (e2 ∙ ap (λ (x : List ℕ). sets x (at + 2) (bytes 2 b)) e1))
+    ∙ (λ t. sets (sets (sets (sets l at (bytes 2 (ea t))) (p2 t) (bytes 2 (eb t))) (p4 t) (bytes 2 (ec t))) (p6 t) (bytes 2 (ed t)))
+    ∙ ap (λ (x : List ℕ). sets l at (wordBytes (take 4 x))) (sym (four-from ws i h))
 
 -- ---- a record's stores, one behind the other, write all of it
 
@@ -61,16 +95,27 @@ last-put r l1 l2 l3 l4 f c t e1 e2 e3 e4 h =
     ∙ ap (λ (l : List ℕ). sets l 16 (replicate 16 0)) (e3 ∙ ap (λ (l : List ℕ). sets l 8 (floatBytes t)) (e2 ∙ ap (λ (l : List ℕ). sets l 4 (replicate 4 0)) e1))
     ∙ sets-all r (lastRecord f c t) (sym h)
 
+-- fewer zeros
+drop-zeros : (m n : ℕ) → drop {A = ℕ} m (replicate n 0) ≡ replicate (n - m) 0
+drop-zeros zero n = ap (λ (x : ℕ). replicate x 0) (sym (sub-zero n))
+drop-zeros (suc m) zero = let a : 0 - suc m ≡ 0 = omega arith in rw a
+drop-zeros (suc m) (suc n) = let a : suc n - suc m ≡ n - m = omega arith in rw a (drop-zeros m n)
+
+-- bytes put on zeros, with zeros left behind them
+zeros-behind : (heads bs : List ℕ) (n : ℕ) → length bs ≤ n → sets (heads ++ replicate n 0) (length heads) bs ≡ heads ++ (bs ++ replicate (n - length bs) 0)
+zeros-behind heads bs n h =
+    let w : length heads + length bs ≤ length (heads ++ replicate n 0) = simp (length-append, length-replicate) (omega arith) in
+    sets-eq bs (heads ++ replicate n 0) (length heads) w
+    ∙ rw (take-append-seam heads (replicate n 0), drop-append-add heads (replicate n 0) (length bs), drop-zeros (length bs) n)
+    (append-assoc heads bs (replicate (n - length bs) 0))
+
 -- C and K
-pub word-put : (r l1 l2 ws : List ℕ) (l k n : ℕ) → n ≡ length ws → n ≤ 14 → l1 ≡ sets (set (set (set (set r 0 l) 1 k) 2 n) 3 0) 4 (wordBytes ws) → l2 ≡ sets l1 (4 + 2 * n) (replicate (32 - (4 + 2 * n)) 0) → length r ≡ 32
+pub word-put : (r l1 l2 ws : List ℕ) (l k n : ℕ) → n ≡ length ws → n ≤ 14 → l1 ≡ sets r 0 (replicate 32 0) → l2 ≡ sets (set (set (set l1 0 l) 1 k) 2 n) 4 (wordBytes ws) → length r ≡ 32
     → l2 ≡ wordRecord l k ws
 word-put r l1 l2 ws l k n e small e1 e2 h =
-    let z : 32 - (4 + 2 * n) ≡ 28 - 2 * length ws = omega arith in
-    let p : 4 + 2 * n ≡ 4 + length (wordBytes ws) = omega (arith, length-wordBytes ws) in
-    let heads = set (set (set (set r 0 l) 1 k) 2 n) 3 0 in
+    let long = length-wordBytes ws in
+    let whole : replicate {A = ℕ} 32 0 ≡ l1 = sym (e1 ∙ sets-all r (replicate 32 0) (sym h)) in
     e2
-    ∙ ap (λ (x : List ℕ). sets x (4 + 2 * n) (replicate (32 - (4 + 2 * n)) 0)) e1
-    ∙ ap₂ (λ (x y : ℕ). sets (sets heads 4 (wordBytes ws)) x (replicate y 0)) p z
-    ∙ sym (sets-append heads 4 (wordBytes ws) (replicate (28 - 2 * length ws) 0))
-    ∙ ap (λ (x : ℕ). sets r 0 (l ∷ k ∷ x ∷ 0 ∷ (wordBytes ws ++ replicate (28 - 2 * length ws) 0))) e
-    ∙ sets-all r (wordRecord l k ws) (word-length l k ws (omega arith) ∙ sym h)
+    ∙ ap₂ (λ (x : List ℕ) (y : ℕ). sets (set (set (set x 0 l) 1 k) 2 y) 4 (wordBytes ws)) (sym whole) e
+    ∙ zeros-behind (l ∷ k ∷ length ws ∷ 0 ∷ []) (wordBytes ws) 28 (omega arith)
+    ∙ ap (λ (x : ℕ). l ∷ k ∷ length ws ∷ 0 ∷ (wordBytes ws ++ replicate (28 - x) 0)) long

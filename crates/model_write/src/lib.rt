@@ -62,16 +62,44 @@ fn narrow_of(w: u32) -> u64
     w as u64
 }
 
-// n words, from byte 4 on.
+// Four words, as two bytes each, from byte `at` on.
+fn put_four(r: &mut [u8], at: usize, words: &[u32], from: usize)
+    requires { ⌜ (from + 4 ≤ length (now words)) × (at + 8 ≤ length (now r)) ⌝ }
+    ensures { λ _. ⌜ now (r .exit) ≡ sets (now (r .entry)) at (wordBytes (take 4 (drop from (now (words .entry))))) ⌝ }
+{
+    let a = narrow_of(words[from]);
+    let b = narrow_of(words[from + 1]);
+    let c = narrow_of(words[from + 2]);
+    let d = narrow_of(words[from + 3]);
+    floats::put_bytes(r, at, 2, a);
+    floats::put_bytes(r, at + 2, 2, b);
+    floats::put_bytes(r, at + 4, 2, c);
+    floats::put_bytes(r, at + 6, 2, d);
+}
+
+// n words, one by one, from byte `at` on.
+fn put_few(r: &mut [u8], at: usize, words: &[u32], from: usize, n: usize)
+    requires { ⌜ (from + n ≤ length (now words)) × (at + 2 * n ≤ length (now r)) ⌝ }
+    ensures { λ _. ⌜ now (r .exit) ≡ sets (now (r .entry)) at (wordBytes (take n (drop from (now (words .entry))))) ⌝ }
+{
+    let mut j = 0;
+    while j < n {
+        floats::put_bytes(r, at + 2 * j, 2, narrow_of(words[from + j]));
+        j += 1;
+    }
+}
+
+// n words, four at a time while four are left, from byte 4 on.
 fn put_words(r: &mut [u8], words: &[u32], from: usize, n: usize)
     requires { ⌜ (from + n ≤ length (now words)) × (4 + 2 * n ≤ length (now r)) × (n ≤ 14) ⌝ }
     ensures { λ _. ⌜ now (r .exit) ≡ sets (now (r .entry)) 4 (wordBytes (take n (drop from (now (words .entry))))) ⌝ }
 {
     let mut j = 0;
-    while j < n {
-        floats::put_bytes(r, 4 + 2 * j, 2, narrow_of(words[from + j]));
-        j += 1;
+    while 4 <= n - j {
+        put_four(r, 4 + 2 * j, words, from + j);
+        j += 4;
     }
+    put_few(r, 4 + 2 * j, words, from + j, n - j);
 }
 
 // C or K, with n words.
@@ -79,12 +107,11 @@ fn put_record(r: &mut [u8], letter: u8, kind: u8, words: &[u32], from: usize, n:
     requires { ⌜ (length (now r) ≡ 32) × (from + n ≤ length (now words)) × (n ≤ 14) ⌝ }
     ensures { λ _. ⌜ now (r .exit) ≡ wordRecord letter kind (take n (drop from (now (words .entry)))) ⌝ }
 {
+    put_zeros(r, 0, 32);
     r[0] = letter;
     r[1] = kind;
     r[2] = n as u8;
-    r[3] = 0;
     put_words(r, words, from, n);
-    put_zeros(r, 4 + 2 * n, 32);
 }
 
 // ---- one record, at a place of the bytes

@@ -1,13 +1,12 @@
 use Prim.Native.Nat.{ℕ, _+_, _*_, _-_, _≤_}
 use mathlib.Core.List.{List}
-use mathlib.Core.Path.{_≡_, refl, sym, ap, _∙_}
+use mathlib.Core.Path.{_≡_, refl, ap, _∙_}
 use native.Mathlib.Omega.{arith}
-use lib.Seq.{length-sets, sets}
+use lib.Seq.{sets}
 use lib.ListN.{length, take, drop}
 use borrow.Author.Needs.{needs}
-use Rattle.laws.specs.Bytes.{bytes}
 use Rattle.model_file.specs.Records.{wordBytes}
-use Rattle.model_write.proofs.Putting.{words-none, words-more, words-done}
+use Rattle.model_write.proofs.Putting.{words-none, words-more}
 use Rattle.model_write.proofs.put_words.Statement.{statement}
 use Rattle.model_write.proofs.put_words.Tie as tie
 
@@ -20,28 +19,22 @@ abbrev μ-loop : tie.MeasureT-loop
 loop-holds : tie.Need-loop-holds Inv-loop μ-loop
 loop-holds c =
     let a = c .before .before .args in
-    (search needs, words-none (a .r .now) (a .words .now) (a .from) (a .n), refl)
+    (search needs, words-none (a .r .now) (a .words .now) 4 (a .from) (a .n), refl)
 
-mul-put-bytes : tie.Need-mul-put-bytes Inv-loop μ-loop
-mul-put-bytes c = search needs
+sub-loop : tie.Need-sub-loop Inv-loop μ-loop
+sub-loop c = search needs
 
-add-put-bytes : tie.Need-add-put-bytes Inv-loop μ-loop
-add-put-bytes c = search needs
+mul-put-four : tie.Need-mul-put-four Inv-loop μ-loop
+mul-put-four c = search needs
 
-add-narrow-of : tie.Need-add-narrow-of Inv-loop μ-loop
-add-narrow-of c = search needs
+add-put-four : tie.Need-add-put-four Inv-loop μ-loop
+add-put-four c = search needs
 
-mul-narrow-of : tie.Need-mul-narrow-of Inv-loop μ-loop
-mul-narrow-of c = search needs
+add-put-four-2 : tie.Need-add-put-four-2 Inv-loop μ-loop
+add-put-four-2 c = search needs
 
-shared-slice-read-narrow-of : tie.Need-shared-slice-read-narrow-of Inv-loop μ-loop
-shared-slice-read-narrow-of c = search needs
-
-narrow-of-requires : tie.Need-narrow-of-requires Inv-loop μ-loop
-narrow-of-requires c κs = search needs
-
-put-bytes-requires : tie.Need-put-bytes-requires Inv-loop μ-loop
-put-bytes-requires c κs = search needs
+put-four-requires : tie.Need-put-four-requires Inv-loop μ-loop
+put-four-requires c κs = search needs
 
 add-j : tie.Need-add-j Inv-loop μ-loop
 add-j c = search needs
@@ -51,25 +44,41 @@ loop-less c = search needs
 
 loop-again : tie.Need-loop-again Inv-loop μ-loop
 loop-again c =
-    let o = c .before .before .before .before .before .before .before in
+    let f = c .before .before in
+    let o = f .before .before .before in
     let b = o .before .before .before in
     let a = b .args in
-    let e = c .before .before .put-bytes in (
+    let j = o .loop .j in
+    let ws = a .words .now in (
       search needs,
-      ap (λ (l : List ℕ). sets l (4 + 2 * (o .loop .j + 1)) (wordBytes (take (a .n - (o .loop .j + 1)) (drop (a .from + (o .loop .j + 1)) (a .words .now))))) (e .ensures)
-          ∙ words-more (o .loop .r) (a .words .now) (a .from) (a .n) (o .loop .j) (omega arith) (b .pre .0) (c .before .before .before .narrow-of .result) (c .before .before .before .narrow-of .ensures)
+      ap (λ (l : List ℕ). sets l (4 + 2 * (j + 4)) (wordBytes (take (a .n - (j + 4)) (drop (a .from + (j + 4)) ws)))) (f .put-four .ensures)
+          ∙ words-more (o .loop .r) ws 4 (a .from) (a .n) j 4 (omega arith) (b .pre .0)
           ∙ o .loop .inv .1,
-      ap length (e .ensures) ∙ length-sets (o .loop .r) (4 + 2 * o .loop .j) (bytes 2 (c .before .before .before .narrow-of .result)) ∙ o .loop .inv .2,
+      f .put-four .kept .0 ∙ o .loop .inv .2,
     )
 
+mul-put-few : tie.Need-mul-put-few Inv-loop μ-loop
+mul-put-few c = search needs
+
+add-put-few : tie.Need-add-put-few Inv-loop μ-loop
+add-put-few c = search needs
+
+add-put-few-2 : tie.Need-add-put-few-2 Inv-loop μ-loop
+add-put-few-2 c = search needs
+
+sub-put-few : tie.Need-sub-put-few Inv-loop μ-loop
+sub-put-few c = search needs
+
+put-few-requires : tie.Need-put-few-requires Inv-loop μ-loop
+put-few-requires c κs = search needs
+
 same-length : tie.Need-same-length Inv-loop μ-loop
-same-length c = c .before .loop .inv .2
+same-length c = search needs
 
 returns : tie.Need-returns Inv-loop μ-loop
 returns c =
-    let o = c .before in
-    let a = o .before .before .before .args in
-    sym (words-done (o .loop .r) (a .words .now) (a .from) (a .n) (o .loop .j) (omega arith)) ∙ o .loop .inv .1
+    let f = c .before .before in
+    f .put-few .ensures ∙ f .before .before .before .loop .inv .1
 
 pub put-words-spec : {M : Type 1} → statement M
 put-words-spec =
@@ -78,15 +87,18 @@ put-words-spec =
     Inv-loop
     μ-loop
     loop-holds
-    mul-put-bytes
-    add-put-bytes
-    add-narrow-of
-    mul-narrow-of
-    shared-slice-read-narrow-of
-    narrow-of-requires
-    put-bytes-requires
+    sub-loop
+    mul-put-four
+    add-put-four
+    add-put-four-2
+    put-four-requires
     add-j
     loop-less
     loop-again
+    mul-put-few
+    add-put-few
+    add-put-few-2
+    sub-put-few
+    put-few-requires
     same-length
     returns)
