@@ -203,12 +203,11 @@ pub fn coordinate_off(x: f64) -> bool
 pub fn coordinates_off(coords: &[f64]) -> bool
     ensures { λ r. ⌜ r ≡ coordinatesOff (now (coords .entry)) ⌝ }
 {
+    let mut off = false;
     let mut i = 0;
     while i < coords.len() {
-        if coordinate_off(coords[i]) {
-            return true;
-        }
+        off = off | coordinate_off(coords[i]);
         i += 1;
     }
-    false
+    off
 }

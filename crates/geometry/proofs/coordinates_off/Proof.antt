@@ -1,21 +1,21 @@
--- `geometry::coordinates_off` meets its contract: the test of the coordinates left is the test of all.
-use Prim.Native.Nat.{_-_, _≤_, _<_}
-use mathlib.Core.Path.{_≡_, refl, sym, ap, _∙_}
-use mathlib.Core.Bool.{true, false}
+-- `geometry::coordinates_off` meets its contract: what is found so far, or the test of the coordinates left, is the test of all.
+use Prim.Native.Nat.{_-_, _≤_}
+use mathlib.Core.Path.{_≡_, refl, sym, _∙_}
+use mathlib.Core.Bool.{_||_}
 use native.Mathlib.Omega.{arith}
-use lib.ListN.{length, getD, drop, drop-of-length-le}
+use lib.ListN.{length, drop}
 use lib.Ieee.{nan}
 use Rattle.geometry.specs.Coordinates.{coordinateOff, coordinatesOff}
-use Rattle.geometry.proofs.Limited.{off-next}
+use Rattle.geometry.proofs.Limited.{any-more, any-done}
 use borrow.Author.Needs.{needs}
 use Rattle.geometry.proofs.coordinates_off.Statement.{statement}
 use Rattle.geometry.proofs.coordinates_off.Tie as tie
 
 abbrev Inv-loop : tie.InvT-loop
-Inv-loop coords i₀ i = (i ≤ length coords) × (coordinatesOff (drop i coords) ≡ coordinatesOff coords)
+Inv-loop coords off₀ i₀ off i = (i ≤ length coords) × ((off || coordinatesOff (drop i coords)) ≡ coordinatesOff coords)
 
 abbrev μ-loop : tie.MeasureT-loop
-μ-loop coords i₀ i = length coords - i
+μ-loop coords off₀ i₀ off i = length coords - i
 
 loop-holds : tie.Need-loop-holds Inv-loop μ-loop
 loop-holds c = (search needs, refl)
@@ -29,14 +29,6 @@ shared-slice-read-coordinate-off c = search needs
 coordinate-off-requires : tie.Need-coordinate-off-requires Inv-loop μ-loop
 coordinate-off-requires c κs = search needs
 
-returns : tie.Need-returns Inv-loop μ-loop
-returns c =
-    let at = c .before .before .before .before in
-    let l = at .before .before .args .coords .now in
-    let h : at .loop .i < length l = omega arith in
-    let t : coordinateOff (getD l (at .loop .i) nan) ≡ true = sym (c .before .coordinate-off .ensures) ∙ c .if1 .taken in
-    sym (off-next l (at .loop .i) h ∙ rw t) ∙ at .loop .inv .1
-
 add-i : tie.Need-add-i Inv-loop μ-loop
 add-i c = search needs
 
@@ -45,18 +37,14 @@ loop-less c = search needs
 
 loop-again : tie.Need-loop-again Inv-loop μ-loop
 loop-again c =
-    let at = c .before .before .before .before in
+    let at = c .before .before .before in
     let l = at .before .before .args .coords .now in
-    let h : at .loop .i < length l = omega arith in
-    let t : coordinateOff (getD l (at .loop .i) nan) ≡ false = sym (c .before .coordinate-off .ensures) ∙ c .if1 .left in
-    (search needs, sym (off-next l (at .loop .i) h ∙ rw t) ∙ at .loop .inv .1)
+    (search needs, any-more coordinateOff l (at .loop .i) nan (at .loop .off) (c .coordinate-off .result) (omega arith) (c .coordinate-off .ensures) ∙ at .loop .inv .1)
 
-returns-2 : tie.Need-returns-2 Inv-loop μ-loop
-returns-2 c =
+returns : tie.Need-returns Inv-loop μ-loop
+returns c =
     let at = c .before in
-    let l = at .before .before .args .coords .now in
-    let h : length l ≤ at .loop .i = omega arith in
-    ap coordinatesOff (sym (drop-of-length-le l h)) ∙ at .loop .inv .1
+    sym (any-done coordinateOff (at .before .before .args .coords .now) (at .loop .i) (at .loop .off) (omega arith)) ∙ at .loop .inv .1
 
 pub coordinates-off-spec : {M : Type 1} → statement M
 coordinates-off-spec =
@@ -68,8 +56,7 @@ coordinates-off-spec =
     mul-coordinate-off
     shared-slice-read-coordinate-off
     coordinate-off-requires
-    returns
     add-i
     loop-less
     loop-again
-    returns-2)
+    returns)
