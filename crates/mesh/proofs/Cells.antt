@@ -1,20 +1,21 @@
 -- A cell by its kind: its word count and its rings; and what is judged of it.
 use Prim.Native.Nat.{ℕ}
 use mathlib.Core.Path.{_≡_, refl, sym, ap, _∙_, subst}
-use mathlib.Core.Logic.{_≢_}
-use mathlib.Core.Bool.{Bool, true, false, not, _||_}
-use mathlib.Core.List.{List}
+use mathlib.Core.Logic.{_≢_, _⊎_, inl, inr}
+use mathlib.Core.Bool.{Bool, true, false, not, _&&_, _||_, false≢true}
+use mathlib.Core.List.{List, [], _∷_}
 use native.Mathlib.Omega.{arith}
-use borrow.Author.Tests.{ltb-false, eqb-false, le-ltb}
-use lib.Dec.{ltb, eqb}
-use lib.ListN.{length}
+use borrow.Author.Tests.{ltb-false, eqb-true, eqb-false, le-ltb}
+use lib.Dec.{leb, ltb, eqb}
+use lib.ListN.{length, take, drop, take-append-drop}
 use Rattle.laws.specs.Lists.{any}
 use Rattle.laws.specs.Refusals.{refusal}
-use Rattle.laws.proofs.Tests.{or-none}
-use Rattle.mesh.specs.Model.{Raw}
-use Rattle.mesh.specs.Rings.{runs, ringsOf}
+use Rattle.laws.proofs.ListLaws.{any-append}
+use Rattle.laws.proofs.Tests.{tested, clash, or-none}
+use Rattle.mesh.specs.Model.{Raw, TET4, PHED}
+use Rattle.mesh.specs.Rings.{ringsOf}
 use Rattle.mesh.specs.Acceptance.{kindOff, countWrong, nodeOff, cellTable}
-use Rattle.mesh.specs.Steps.{tooLong, cellWith, RunsCounted, KindCounted, CellCounted}
+use Rattle.mesh.specs.Steps.{cellWith, RunsCounted, KindCounted, CellCounted}
 use Rattle.mesh.specs.declared.RunTally.{RunTally}
 use Rattle.mesh.specs.declared.CellTally.{CellTally}
 
@@ -108,3 +109,29 @@ kind-alone before k h =
     let p = or-none (ltb k before || eqb k 0) (ltb 4 k) h in
     let q = or-none (ltb k before) (eqb k 0) (p .0) in
     rw (le-ltb k 0 (omega arith), q .1) (p .1)
+
+-- ---- words judged all at once
+
+-- no element of a part passes where none of the whole does
+pub any-part {ℓ} : {A : Type ℓ} (p : A → Bool) (l : List A) (a m : ℕ) → any p l ≡ false → any p (take m (drop a l)) ≡ false
+any-part p l a m e =
+    let s = or-none (any p (take a l)) (any p (drop a l)) (sym (any-append p (take a l) (drop a l)) ∙ ap (any p) (take-append-drop a l) ∙ e) in
+    let t = drop a l in
+    or-none (any p (take m t)) (any p (drop m t)) (sym (any-append p (take m t) (drop m t)) ∙ ap (any p) (take-append-drop m t) ∙ s .1) .0
+
+-- words that are all nodes of a tetrahedron are so of any kind
+pub any-kind : (n k : ℕ) (ws : List ℕ) → any (nodeOff n TET4) ws ≡ false → any (nodeOff n k) ws ≡ false
+any-kind n k [] e = refl
+any-kind n k (w ∷ ws) e =
+    let s = or-none (nodeOff n TET4 w) (any (nodeOff n TET4) ws) e in
+    go (tested (leb n w)) (s .0) (any-kind n k ws (s .1))
+  where
+    go : (leb n w ≡ true) ⊎ (leb n w ≡ false) → nodeOff n TET4 w ≡ false → any (nodeOff n k) ws ≡ false → any (nodeOff n k) (w ∷ ws) ≡ false
+    go (inl a) f h = clash (rw a) f
+    go (inr a) f h = rw a h
+
+-- words with no node off in any kind, or in a PHED where the kind is that
+pub good-words : (n k : ℕ) (ws : List ℕ) (a b : Bool) → a ≡ any (nodeOff n TET4) ws → b ≡ any (nodeOff n PHED) ws → (not a || (not b && eqb k PHED)) ≡ true → any (nodeOff n k) ws ≡ false
+good-words n k ws false b d e h = any-kind n k ws (sym d)
+good-words n k ws true false d e h = subst (λ (j : ℕ). any (nodeOff n j) ws ≡ false) (sym (eqb-true k PHED h)) (sym e)
+good-words n k ws true true d e h = absurd (false≢true h)

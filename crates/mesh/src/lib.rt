@@ -1,6 +1,6 @@
 // The model: its check flags, and why it is refused; one pass over its cells judges and counts.
 ghost use mathlib.Core.Path.{_≡_};
-ghost use mathlib.Core.Bool.{_||_, not, cond, false};
+ghost use mathlib.Core.Bool.{_||_, not, cond, true, false};
 ghost use Prim.Native.Nat.{_+_, _*_, _≤_, _<_};
 ghost use lib.Dec.{leb, ltb, eqb};
 ghost use lib.ListN.{length, drop};
@@ -160,18 +160,28 @@ fn node_off(nodes: usize, kind: u8, word: u32) -> bool
     large & !(phed & separates)
 }
 
-// Some word is.
+// Some word is. Every word is tested, with no early exit.
 fn nodes_off(nodes: usize, kind: u8, words: &[u32]) -> bool
     ensures { λ r. ⌜ r ≡ any (nodeOff nodes kind) (now (words .entry)) ⌝ }
 {
+    let mut off = false;
     let mut i = 0;
     while i < words.len() {
-        if node_off(nodes, kind, words[i]) {
-            return true;
-        }
+        off = off | node_off(nodes, kind, words[i]);
         i += 1;
     }
-    false
+    off
+}
+
+// The same, with no word read where all are known to be `good`.
+fn nodes_off_unless(nodes: usize, kind: u8, words: &[u32], good: bool) -> bool
+    requires { ⌜ (good ≡ true → any (nodeOff nodes kind) (now words) ≡ false) ⌝ }
+    ensures { λ r. ⌜ r ≡ any (nodeOff nodes kind) (now (words .entry)) ⌝ }
+{
+    if good {
+        return false;
+    }
+    nodes_off(nodes, kind, words)
 }
 
 // A cell of so many words, where it must have `wanted`, with so many faces and ring words.
@@ -227,9 +237,9 @@ fn refused(n: u8) -> CellTally
     }
 }
 
-// A cell after one of kind `before`: kind, then count, then nodes.
-fn tally_cell(kind: u8, before: u8, words: &[u32], nodes: usize) -> CellTally
-    requires { ⌜ length (now words) < 4294967296 ⌝ }
+// A cell after one of kind `before`: kind, then count, then nodes, unless these are known to be `good`.
+fn tally_cell(kind: u8, before: u8, words: &[u32], nodes: usize, good: bool) -> CellTally
+    requires { ⌜ (length (now words) < 4294967296) × (good ≡ true → any (nodeOff nodes kind) (now words) ≡ false) ⌝ }
     ensures { λ r. ⌜ CellCounted nodes before (cellWith kind (now (words .entry))) r ⌝ }
 {
     if kind_off(before, kind) {
@@ -239,7 +249,7 @@ fn tally_cell(kind: u8, before: u8, words: &[u32], nodes: usize) -> CellTally
     if t.long {
         return refused(9);
     }
-    if nodes_off(nodes, kind, words) {
+    if nodes_off_unless(nodes, kind, words, good) {
         return refused(9);
     }
     CellTally {
@@ -254,6 +264,9 @@ pub fn tally_cells(kinds: &[u8], ends: &[u32], words: &[u32], nodes: usize) -> C
     requires { ⌜ (length (now kinds) ≡ length (now ends)) × (endsOff 0 (now ends) (length (now words)) ≡ false) × (length (now kinds) ≤ 16384) × (length (now words) ≤ 262144) ⌝ }
     ensures { λ r. ⌜ CellsCounted nodes (cellsFrom 0 (now (kinds .entry)) (now (ends .entry)) (now (words .entry))) r ⌝ }
 {
+    // no word is off in a cell of any kind; none is off in a PHED
+    let below = !nodes_off(nodes, 1, words);
+    let sound = !nodes_off_unless(nodes, 4, words, below);
     let mut faces: usize = 0;
     let mut ring_words: usize = 0;
     let mut at: usize = 0;
@@ -262,7 +275,8 @@ pub fn tally_cells(kinds: &[u8], ends: &[u32], words: &[u32], nodes: usize) -> C
     while i < kinds.len() {
         let e = wide(ends[i]);
         let kind = kinds[i];
-        let t = tally_cell(kind, before, &words[at..e], nodes);
+        let good = below | (sound & (kind == 4));
+        let t = tally_cell(kind, before, &words[at..e], nodes, good);
         if t.refusal != 0 {
             return refused(t.refusal);
         }

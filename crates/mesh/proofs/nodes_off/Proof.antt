@@ -1,26 +1,23 @@
-use borrow.Author.Needs.{needs}
+use Prim.Native.Nat.{_-_, _≤_}
+use mathlib.Core.Path.{_≡_, refl, sym, _∙_}
+use mathlib.Core.Bool.{_||_}
 use native.Mathlib.Omega.{arith}
+use lib.ListN.{length, drop}
+use borrow.Author.Needs.{needs}
+use Rattle.laws.specs.Lists.{any}
+use Rattle.geometry.proofs.Limited.{any-more, any-done}
+use Rattle.mesh.specs.Acceptance.{nodeOff}
 use Rattle.mesh.proofs.nodes_off.Statement.{statement}
 use Rattle.mesh.proofs.nodes_off.Tie as tie
-use Rattle.mesh.proofs.nodes_off.Reads as reads
-use Rattle.mesh.proofs.nodes_off.Lts as lts
-use Rattle.mesh.proofs.node_off.Reads as node-off-reads
-use Rattle.mesh.specs.Acceptance.{nodeOff}
-use Rattle.laws.proofs.ListLaws.{any-drop}
-use Rattle.laws.specs.Lists.{any}
-use lib.ListN.{length, getD, drop, drop-of-length-le}
-use mathlib.Core.Bool.{true, false, _||_}
-use mathlib.Core.Path.{_≡_, refl, sym, ap, _∙_}
-use Prim.Native.Nat.{_+_, _-_, _≤_, _<_}
 
 abbrev Inv-loop : tie.InvT-loop
-Inv-loop nodes kind words i₀ i = (i ≤ length words) × (any (nodeOff nodes kind) (drop i words) ≡ any (nodeOff nodes kind) words)
+Inv-loop nodes kind words off₀ i₀ off i = (i ≤ length words) × ((off || any (nodeOff nodes kind) (drop i words)) ≡ any (nodeOff nodes kind) words)
 
 abbrev μ-loop : tie.MeasureT-loop
-μ-loop nodes kind words i₀ i = length words - i
+μ-loop nodes kind words off₀ i₀ off i = length words - i
 
 loop-holds : tie.Need-loop-holds Inv-loop μ-loop
-loop-holds c = (omega arith, refl)
+loop-holds c = (search needs, refl)
 
 mul-node-off : tie.Need-mul-node-off Inv-loop μ-loop
 mul-node-off c = search needs
@@ -31,14 +28,6 @@ shared-slice-read-node-off c = search needs
 node-off-requires : tie.Need-node-off-requires Inv-loop μ-loop
 node-off-requires c κs = search needs
 
-returns : tie.Need-returns Inv-loop μ-loop
-returns c =
-    let at = c .before .before .before .before in
-    let s = at .before .before in
-    let ws = s .args .words .now in
-    let h : at .loop .i < length ws = omega arith in
-    sym (sym (at .loop .inv .1) ∙ any-drop (nodeOff (s .args .nodes) (s .args .kind)) ws (at .loop .i) 0 h ∙ rw (← c .before .node-off .ensures, c .if1 .taken))
-
 add-i : tie.Need-add-i Inv-loop μ-loop
 add-i c = search needs
 
@@ -47,18 +36,15 @@ loop-less c = search needs
 
 loop-again : tie.Need-loop-again Inv-loop μ-loop
 loop-again c =
-    let at = c .before .before .before .before in
-    let s = at .before .before in
-    let ws = s .args .words .now in
-    let h : at .loop .i < length ws = omega arith in
-    (omega arith, sym (any-drop (nodeOff (s .args .nodes) (s .args .kind)) ws (at .loop .i) 0 h ∙ rw (← c .before .node-off .ensures, c .if1 .left)) ∙ at .loop .inv .1)
+    let at = c .before .before .before in
+    let a = at .before .before .args in
+    (search needs, any-more (nodeOff (a .nodes) (a .kind)) (a .words .now) (at .loop .i) 0 (at .loop .off) (c .node-off .result) (omega arith) (c .node-off .ensures) ∙ at .loop .inv .1)
 
-returns-2 : tie.Need-returns-2 Inv-loop μ-loop
-returns-2 c =
+returns : tie.Need-returns Inv-loop μ-loop
+returns c =
     let at = c .before in
-    let s = at .before .before in
-    let h : length (s .args .words .now) ≤ at .loop .i = omega arith in
-    ap (any (nodeOff (s .args .nodes) (s .args .kind))) (sym (drop-of-length-le (s .args .words .now) h)) ∙ at .loop .inv .1
+    let a = at .before .before .args in
+    sym (any-done (nodeOff (a .nodes) (a .kind)) (a .words .now) (at .loop .i) (at .loop .off) (omega arith)) ∙ at .loop .inv .1
 
 pub nodes-off-spec : {M : Type 1} → statement M
 nodes-off-spec =
@@ -70,8 +56,7 @@ nodes-off-spec =
     mul-node-off
     shared-slice-read-node-off
     node-off-requires
-    returns
     add-i
     loop-less
     loop-again
-    returns-2)
+    returns)

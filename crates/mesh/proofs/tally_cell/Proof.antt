@@ -1,12 +1,6 @@
 use borrow.Author.Needs.{needs}
 use Rattle.mesh.proofs.tally_cell.Statement.{statement}
 use Rattle.mesh.proofs.tally_cell.Tie as tie
-use Rattle.mesh.proofs.tally_cell.Reads as reads
-use Rattle.mesh.proofs.tally_cell.Lts as lts
-use Rattle.mesh.proofs.kind_off.Reads as kind-off-reads
-use Rattle.mesh.proofs.nodes_off.Reads as nodes-off-reads
-use Rattle.mesh.proofs.refused.Reads as refused-reads
-use Rattle.mesh.proofs.tally_kind.Reads as tally-kind-reads
 use Rattle.mesh.proofs.Cells.{judged-kind, judged-count, judged-nodes, judged-well, cell-refused, cell-passed, kind-alone}
 use Rattle.mesh.specs.Steps.{cellWith}
 use mathlib.Core.Path.{refl, sym, _∙_}
@@ -42,8 +36,8 @@ returns-2 c =
     let e = c .refused2 .ensures in
     cell-refused (a .nodes) (a .before) x _ (judged-count (a .nodes) (a .before) x k l) (e .0) (e .1) (e .2)
 
-nodes-off-requires : tie.Need-nodes-off-requires
-nodes-off-requires c κs = search needs
+nodes-off-unless-requires : tie.Need-nodes-off-unless-requires
+nodes-off-unless-requires c κs = c .before .before .before .before .before .pre .1
 
 refused-requires-3 : tie.Need-refused-requires-3
 refused-requires-3 c κs = search needs
@@ -54,7 +48,7 @@ returns-3 c =
     let x = cellWith (a .kind) (a .words .now) in
     let k = sym (c .before .before .before .before .before .before .kind-off .ensures) ∙ c .before .before .before .before .before .if1 .left in
     let l = sym (c .before .before .before .before .tally-kind .ensures .off) ∙ c .before .before .before .if2 .left in
-    let n = sym (c .before .before .nodes-off .ensures) ∙ c .before .if3 .taken in
+    let n = sym (c .before .before .nodes-off-unless .ensures) ∙ c .before .if3 .taken in
     let e = c .refused3 .ensures in
     cell-refused (a .nodes) (a .before) x _ (judged-nodes (a .nodes) (a .before) x k l n) (e .0) (e .1) (e .2)
 
@@ -64,7 +58,7 @@ returns-4 c =
     let x = cellWith (a .kind) (a .words .now) in
     let k = sym (c .before .before .before .before .before .kind-off .ensures) ∙ c .before .before .before .before .if1 .left in
     let l = sym (c .before .before .before .tally-kind .ensures .off) ∙ c .before .before .if2 .left in
-    let n = sym (c .before .nodes-off .ensures) ∙ c .if3 .left in
+    let n = sym (c .before .nodes-off-unless .ensures) ∙ c .if3 .left in
     cell-passed (a .nodes) (a .before) x _ _ (judged-well (a .nodes) (a .before) x k l n) (c .before .before .before .tally-kind .ensures) refl refl refl
 
 pub tally-cell-spec : {M : Type 1} → statement M
@@ -77,7 +71,7 @@ tally-cell-spec =
     tally-kind-requires
     refused-requires-2
     returns-2
-    nodes-off-requires
+    nodes-off-unless-requires
     refused-requires-3
     returns-3
     returns-4)

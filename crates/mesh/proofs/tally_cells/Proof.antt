@@ -2,26 +2,31 @@ use borrow.Author.Needs.{needs}
 use native.Mathlib.Omega.{arith}
 use Rattle.mesh.proofs.tally_cells.Statement.{statement}
 use Rattle.mesh.proofs.tally_cells.Tie as tie
-use Rattle.mesh.proofs.tally_cells.Reads as reads
-use Rattle.mesh.proofs.tally_cells.Lts as lts
-use Rattle.mesh.proofs.refused.Reads as refused-reads
-use Rattle.mesh.proofs.tally_cell.Reads as tally-cell-reads
-use Rattle.mesh.proofs.wide.Reads as wide-reads
-use Rattle.mesh.proofs.CellTallies.{Counting, counting-start, next-end, counting-end}
+use Rattle.mesh.proofs.Cells.{any-part, any-kind, good-words}
+use Rattle.mesh.proofs.CellTallies.{Counting, counting-start, next-end, counting-end, refused-at, counting-at, cells-refused}
+use Rattle.mesh.specs.Acceptance.{nodeOff}
+use borrow.Author.Tests.{not-true}
 use mathlib.Core.Path.{refl, sym, _∙_}
-use lib.ListN.{length}
+use lib.ListN.{length, getD}
 use Prim.Native.Nat.{_-_}
-use Rattle.mesh.proofs.CellTallies.{refused-at, counting-at, cells-refused}
 
 abbrev Inv-loop : tie.InvT-loop
-Inv-loop kinds ends words nodes faces₀ ring-words₀ at₀ before₀ i₀ faces ring-words at before i = Counting kinds ends words nodes faces ring-words at before i
+Inv-loop kinds ends words nodes below sound faces₀ ring-words₀ at₀ before₀ i₀ faces ring-words at before i = Counting kinds ends words nodes faces ring-words at before i
 
 abbrev μ-loop : tie.MeasureT-loop
-μ-loop kinds ends words nodes faces₀ ring-words₀ at₀ before₀ i₀ faces ring-words at before i = length kinds - i
+μ-loop kinds ends words nodes below sound faces₀ ring-words₀ at₀ before₀ i₀ faces ring-words at before i = length kinds - i
+
+nodes-off-requires : tie.Need-nodes-off-requires Inv-loop μ-loop
+nodes-off-requires c κs = search needs
+
+nodes-off-unless-requires : tie.Need-nodes-off-unless-requires Inv-loop μ-loop
+nodes-off-unless-requires c κs =
+    let a = c .before .before .before .before .args in
+    λ g. any-kind (a .nodes) 4 (a .words .now) (sym (c .nodes-off .ensures) ∙ not-true (c .nodes-off .result) g)
 
 loop-holds : tie.Need-loop-holds Inv-loop μ-loop
 loop-holds c =
-    let s = c .before .before .before in
+    let s = c .before .before .before .before .before in
     counting-start (s .args .kinds .now) (s .args .ends .now) (s .args .words .now) (s .args .nodes) (s .pre .1)
 
 mul-wide : tie.Need-mul-wide Inv-loop μ-loop
@@ -39,40 +44,48 @@ shared-slice-read-kind c = search needs
 mul-tally-cell : tie.Need-mul-tally-cell Inv-loop μ-loop
 mul-tally-cell c =
     let at = c .before .before .before .before in
-    let s = c .before .before .before .before .before .before .before .before in
+    let s = c .before .before .before .before .before .before .before .before .before .before in
     let p = next-end (s .args .kinds .now) (s .args .ends .now) (s .args .words .now) (s .args .nodes) (at .loop .faces) (at .loop .ring-words) (at .loop .at) (at .loop .before) (at .loop .i) (at .loop .inv) (s .pre .0) (omega arith) in
     omega (arith, p .0, p .1, s .pre .3)
 
 sub-tally-cell : tie.Need-sub-tally-cell Inv-loop μ-loop
 sub-tally-cell c =
     let at = c .before .before .before .before in
-    let s = c .before .before .before .before .before .before .before .before in
+    let s = c .before .before .before .before .before .before .before .before .before .before in
     let p = next-end (s .args .kinds .now) (s .args .ends .now) (s .args .words .now) (s .args .nodes) (at .loop .faces) (at .loop .ring-words) (at .loop .at) (at .loop .before) (at .loop .i) (at .loop .inv) (s .pre .0) (omega arith) in
     omega (arith, p .0, p .1, c .before .wide .ensures .0)
 
 part-tally-cell-start : tie.Need-part-tally-cell-start Inv-loop μ-loop
 part-tally-cell-start c =
     let at = c .before .before .before .before in
-    let s = c .before .before .before .before .before .before .before .before in
+    let s = c .before .before .before .before .before .before .before .before .before .before in
     let p = next-end (s .args .kinds .now) (s .args .ends .now) (s .args .words .now) (s .args .nodes) (at .loop .faces) (at .loop .ring-words) (at .loop .at) (at .loop .before) (at .loop .i) (at .loop .inv) (s .pre .0) (omega arith) in
     omega (arith, p .0, p .1, c .before .wide .ensures .0)
 
 part-tally-cell-end : tie.Need-part-tally-cell-end Inv-loop μ-loop
 part-tally-cell-end c =
     let at = c .before .before .before .before in
-    let s = c .before .before .before .before .before .before .before .before in
+    let s = c .before .before .before .before .before .before .before .before .before .before in
     let p = next-end (s .args .kinds .now) (s .args .ends .now) (s .args .words .now) (s .args .nodes) (at .loop .faces) (at .loop .ring-words) (at .loop .at) (at .loop .before) (at .loop .i) (at .loop .inv) (s .pre .0) (omega arith) in
     omega (arith, p .0, p .1, c .before .wide .ensures .0)
 
 tally-cell-requires : tie.Need-tally-cell-requires Inv-loop μ-loop
-tally-cell-requires c κs = search needs
+tally-cell-requires c κs =
+    let at = c .before .before .before .before .before in
+    let u = at .before in
+    let a = u .before .before .before .before .before .args in
+    let k = getD (a .kinds .now) (at .loop .i) 0 in (
+      search needs,
+      λ g. any-part (nodeOff (a .nodes) k) (a .words .now) (at .loop .at) (c .before .before .wide .result - at .loop .at)
+          (good-words (a .nodes) k (a .words .now) (u .before .nodes-off .result) (u .nodes-off-unless .result) (u .before .nodes-off .ensures) (u .nodes-off-unless .ensures) g),
+    )
 
 refused-requires : tie.Need-refused-requires Inv-loop μ-loop
 refused-requires c κs = search needs
 
 returns : tie.Need-returns Inv-loop μ-loop
 returns c =
-    let s = c .before .before .before .before .before .before .before .before .before .before .before .before .before in
+    let s = c .before .before .before .before .before .before .before .before .before .before .before .before .before .before .before in
     let at = c .before .before .before .before .before .before .before .before .before in
     let t = c .before .before .before .tally-cell in
     let z = c .before .if1 .taken in
@@ -81,14 +94,14 @@ returns c =
 
 add-faces : tie.Need-add-faces Inv-loop μ-loop
 add-faces c =
-    let s = c .before .before .before .before .before .before .before .before .before .before .before .before .before in
+    let s = c .before .before .before .before .before .before .before .before .before .before .before .before .before .before .before in
     let at = c .before .before .before .before .before .before .before .before .before in
     let k = counting-at (s .args .kinds .now) (s .args .ends .now) (s .args .words .now) (s .args .nodes) (at .loop .faces) (at .loop .ring-words) (at .loop .at) (at .loop .before) (at .loop .i) (at .loop .inv) (s .pre .0) (c .before .before .before .before .before .before .before .before .loop-test .taken) _ (c .before .before .before .before .before .before .wide .ensures .0) (c .before .before .before .tally-cell .result) (c .before .before .before .tally-cell .ensures) (c .before .if1 .left) in
     omega (arith, k .few, c .before .before .before .before .before .before .wide .ensures .1, s .pre .2)
 
 add-ring-words : tie.Need-add-ring-words Inv-loop μ-loop
 add-ring-words c =
-    let s = c .before .before .before .before .before .before .before .before .before .before .before .before .before .before in
+    let s = c .before .before .before .before .before .before .before .before .before .before .before .before .before .before .before .before in
     let at = c .before .before .before .before .before .before .before .before .before .before in
     let k = counting-at (s .args .kinds .now) (s .args .ends .now) (s .args .words .now) (s .args .nodes) (at .loop .faces) (at .loop .ring-words) (at .loop .at) (at .loop .before) (at .loop .i) (at .loop .inv) (s .pre .0) (c .before .before .before .before .before .before .before .before .before .loop-test .taken) _ (c .before .before .before .before .before .before .before .wide .ensures .0) (c .before .before .before .before .tally-cell .result) (c .before .before .before .before .tally-cell .ensures) (c .before .before .if1 .left) in
     omega (arith, k .small, c .before .before .before .before .before .before .before .wide .ensures .1, s .pre .2)
@@ -101,7 +114,7 @@ loop-less c = search needs
 
 loop-again : tie.Need-loop-again Inv-loop μ-loop
 loop-again c =
-    let s = c .before .before .before .before .before .before .before .before .before .before .before .before .before .before in
+    let s = c .before .before .before .before .before .before .before .before .before .before .before .before .before .before .before .before in
     let at = c .before .before .before .before .before .before .before .before .before .before in
     let t = c .before .before .before .before .tally-cell in
     counting-at (s .args .kinds .now) (s .args .ends .now) (s .args .words .now) (s .args .nodes) (at .loop .faces) (at .loop .ring-words) (at .loop .at) (at .loop .before) (at .loop .i) (at .loop .inv) (s .pre .0) (c .before .before .before .before .before .before .before .before .before .loop-test .taken) _ (c .before .before .before .before .before .before .before .wide .ensures .0) (c .before .before .before .before .tally-cell .result) (t .ensures) (c .before .before .if1 .left)
@@ -109,7 +122,7 @@ loop-again c =
 returns-2 : tie.Need-returns-2 Inv-loop μ-loop
 returns-2 c =
     let at = c .before in
-    let s = c .before .before .before .before .before in
+    let s = c .before .before .before .before .before .before .before in
     counting-end (s .args .kinds .now) (s .args .ends .now) (s .args .words .now) (s .args .nodes) (at .loop .faces) (at .loop .ring-words) (at .loop .at) (at .loop .before) (at .loop .i) _ (at .loop .inv) (s .pre .2) (s .pre .3) (omega arith) refl refl refl
 
 pub tally-cells-spec : {M : Type 1} → statement M
@@ -118,6 +131,8 @@ tally-cells-spec =
     (tie.spec
     Inv-loop
     μ-loop
+    nodes-off-requires
+    nodes-off-unless-requires
     loop-holds
     mul-wide
     shared-slice-read-wide
