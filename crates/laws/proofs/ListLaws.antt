@@ -2,13 +2,13 @@
 use Prim.Native.Nat.{ℕ, zero, suc, _+_, _≤_, _<_}
 use mathlib.Core.Path.{_≡_, refl, sym, ap, ap₂, _∙_, fun-ext}
 use mathlib.Core.Logic.{_⊎_, inl, inr}
-use mathlib.Core.Bool.{Bool, true, false, _&&_, _||_, or-assoc, false≢true}
+use mathlib.Core.Bool.{Bool, true, false, _&&_, _||_, or-assoc, or-false, false≢true}
 use mathlib.Core.List.{List, [], _∷_, _++_, map, append-assoc, append-nil, map-append}
 use native.Mathlib.Nat.{add-zero, add-suc, suc-add}
 use native.Mathlib.Numerals.{add-one}
 use native.Mathlib.Omega.{arith}
 use lib.Dec.{eqb}
-use lib.ListN.{length, getD, drop}
+use lib.ListN.{length, getD, drop, drop-of-length-le}
 use lib.Seq.{drop-cons}
 use Rattle.laws.specs.Lists.{onlyIf, any, each, walk, keep, eql, upFrom}
 use Rattle.laws.proofs.Tests.{tested, clash, or-four, and-parts, eqb-self, eqb-comm}
@@ -66,6 +66,16 @@ module _ {ℓ} {A : Type ℓ} where
   -- a test of what is left, one element at a time
   pub any-drop : (p : A → Bool) (l : List A) (i : ℕ) (d : A) → i < length l → any p (drop i l) ≡ (p (getD l i d) || any p (drop (i + 1) l))
   any-drop p l i d h = rw (drop-cons l i d h, add-one i)
+
+  -- a turn of a loop that tests every element, with no early exit
+  pub any-more : (p : A → Bool) (l : List A) (i : ℕ) (d : A) (off r : Bool) → i < length l → r ≡ p (getD l i d) → (off || r || any p (drop (i + 1) l)) ≡ (off || any p (drop i l))
+  any-more p l i d off r h e =
+      or-assoc off r (any p (drop (i + 1) l))
+      ∙ ap (λ (b : Bool). off || b) (ap (λ (b : Bool). b || any p (drop (i + 1) l)) e ∙ sym (any-drop p l i d h))
+
+  -- its end
+  pub any-done : (p : A → Bool) (l : List A) (i : ℕ) (off : Bool) → length l ≤ i → (off || any p (drop i l)) ≡ off
+  any-done p l i off h = ap (λ (r : List A). off || any p r) (drop-of-length-le l h) ∙ or-false off
 
   any-none : (l : List A) → any (λ x. false) l ≡ false
   any-none [] = refl

@@ -16,8 +16,9 @@ use Rattle.geometry.specs.Points.{pointAt, pointSub, pointDot}
 use Rattle.geometry.specs.Coordinates.{coordinatesOff}
 use Rattle.snap.specs.Weld.{orElse, pointsBefore, beforeOf, farOf, nearOf, takes}
 use Rattle.snap.specs.Steps.{apartBy, outsideOf, passedOf, farPoints, nearPoints, InOrder, Reached, PassedOver}
-use Rattle.snap.proofs.Order.{lt-asym, lt-neg, finite-at}
-use Rattle.snap.proofs.Temp.{gap-up, gap-down, sub-under}
+use Rattle.floats.proofs.Signed.{lt-asym, lt-neg}
+use Rattle.floats.proofs.Differences.{gap-up, gap-down, sub-under}
+use Rattle.snap.proofs.Order.{finite-at}
 use Rattle.snap.proofs.Squares.{second-above, third-above}
 use Rattle.snap.proofs.Parts.{read-to}
 use Rattle.snap.proofs.Groups.{step-pass}

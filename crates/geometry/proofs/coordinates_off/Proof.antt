@@ -6,7 +6,7 @@ use native.Mathlib.Omega.{arith}
 use lib.ListN.{length, drop}
 use lib.Ieee.{nan}
 use Rattle.geometry.specs.Coordinates.{coordinateOff, coordinatesOff}
-use Rattle.geometry.proofs.Limited.{any-more, any-done}
+use Rattle.laws.proofs.ListLaws.{any-more, any-done}
 use borrow.Author.Needs.{needs}
 use Rattle.geometry.proofs.coordinates_off.Statement.{statement}
 use Rattle.geometry.proofs.coordinates_off.Tie as tie

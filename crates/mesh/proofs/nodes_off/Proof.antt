@@ -5,7 +5,7 @@ use native.Mathlib.Omega.{arith}
 use lib.ListN.{length, drop}
 use borrow.Author.Needs.{needs}
 use Rattle.laws.specs.Lists.{any}
-use Rattle.geometry.proofs.Limited.{any-more, any-done}
+use Rattle.laws.proofs.ListLaws.{any-more, any-done}
 use Rattle.mesh.specs.Acceptance.{nodeOff}
 use Rattle.mesh.proofs.nodes_off.Statement.{statement}
 use Rattle.mesh.proofs.nodes_off.Tie as tie
