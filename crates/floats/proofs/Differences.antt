@@ -2,7 +2,7 @@
 -- and the square of a difference does not shrink as the second value moves away from the first (`gap-up`, `gap-down`).
 use mathlib.Core.Path.{_≡_, refl, sym, ap, ap₂, _∙_}
 use mathlib.Core.Logic.{_⊎_, inl, inr, ⊎-elim}
-use mathlib.Core.Bool.{Bool, true, false, not, _&&_, cond, true≢false}
+use mathlib.Core.Bool.{Bool, true, false, not, _&&_, cond}
 use Prim.Native.Nat.{ℕ, zero, suc, _+_, _-_, _*_, _^_, _≤_, _<_}
 use native.Mathlib.Nat.{le-trans, le-of-eq, mul-comm, mul-assoc, mul-left-comm, mul-right-comm, mul-mul-mul-comm, mul-sub, add-mul, zero-mul, mul-le-mul, mul-le-mul-right, mul-pos}
 use native.Mathlib.Omega.{arith}
@@ -17,29 +17,10 @@ use borrow.Author.Tests.{ltb-true, ltb-false}
 use Rattle.laws.proofs.Tests.{tested, clash}
 use Rattle.floats.specs.Floats.{isFinite}
 use Rattle.floats.proofs.Monotone.{grown, not-grown, no-lower, top}
+use Rattle.floats.proofs.Rounding.{round-grown}
 use Rattle.floats.proofs.Signed.{ltb-scale, over, under, to-below, lt-neg, lt-flip, Part, widened, widened-back, lt-part, part-order}
 
 -- ---- rounded fractions
-
--- a value that has a fraction without a minus sign has none
-value-grown : (z : Float) (a c : ℕ) → HasValue z false a c → T (grown z)
-value-grown nan a c v = absurd v
-value-grown (inf s) a c v = absurd v
-value-grown (fin true m e) a c v = absurd (true≢false (v .0))
-value-grown (fin false m e) a c v = tt
-
--- a count of units without a minus sign has none as a value
-units-grown : (f : Format) (q k : ℕ) → T (grown (units f false q k))
-unfolding units
-units-grown f q k = go (ltb (q * 2 ^ k) (2 ^ (low f + suc (emax f))))
-  where
-    go : (b : Bool) → T (grown (cond b (odd (suc (prec f)) false q k (low f)) (inf false)))
-    go true = value-grown (odd (suc (prec f)) false q k (low f)) (q * 2 ^ k) (2 ^ low f) (odd-sign (suc (prec f)) false q k (low f))
-    go false = tt
-
--- nor has a fraction, rounded
-round-grown : (f : Format) (a c : ℕ) → T (grown (round f false a c))
-round-grown f a c = rw (round-is f false a c) (units-grown f _ _)
 
 -- a minus sign goes through `odd`
 odd-neg : (d q k l : ℕ) → odd d true q k l ≡ neg (odd d false q k l)

@@ -9,6 +9,7 @@ pub mod Written
 pub mod Cases
 pub mod Small
 pub mod Monotone
+pub mod Rounding
 pub mod Over
 pub mod Bytes
 pub mod Constants

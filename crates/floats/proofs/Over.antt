@@ -1,15 +1,13 @@
 -- A root is above e where the square of some x > e, rounded, is below the value: no root has to be found (`over-square`).
 use mathlib.Core.Path.{_≡_, refl, sym, ap, _∙_, subst}
 use mathlib.Core.Logic.{⊎-elim}
-use mathlib.Core.Bool.{Bool, true, false, cond, true≢false}
+use mathlib.Core.Bool.{true, false}
 use Prim.Native.Nat.{ℕ, _+_, _*_, _^_, _≤_, _<_}
 use native.Mathlib.Nat.{le-trans, le-of-eq, lt-of-lt-of-le, mul-assoc, mul-le-mul-right, mul-pos, zero-mul}
 use native.Mathlib.Omega.{arith}
-use lib.Dec.{T, ltb}
-use lib.Pow.{pow-pos, pow-mono, shl-lt}
-use lib.Ieee.{Float, nan, inf, fin, binary64, up, down, odd, units, round, mul, lt, fits}
-use lib.Ieee.Exact.{HasValue, odd-sign, round-exact}
-use lib.Ieee.Fits.{round-is, round-fits}
+use lib.Dec.{T}
+use lib.Pow.{pow-pos}
+use lib.Ieee.{Float, nan, inf, fin, binary64, up, down, round, mul, lt, fits}
 use lib.Ieee.Order.{round-mono}
 use lib.Ieee.Positive.{positive, mul-at}
 use borrow.Author.Tests.{ltb-true, lt-ltb}
@@ -17,46 +15,10 @@ use Rattle.laws.proofs.Tests.{tested, clash, split}
 use Rattle.floats.specs.Floats.{zero64}
 use Rattle.floats.specs.Root.{unitsIn, sqrt, counted, radicand}
 use Rattle.floats.proofs.Whole.{square-lt}
-use Rattle.floats.proofs.Fields.{units-of, units-exact, grid-of}
-use Rattle.floats.proofs.Nearest.{sqrt-nearest, same-units, counts}
+use Rattle.floats.proofs.Fields.{units-exact}
+use Rattle.floats.proofs.Nearest.{sqrt-nearest, counts}
 use Rattle.floats.proofs.Monotone.{units-lt, zero-or, grown, not-grown, no-lower, counted-grown, top, under-top}
-
--- what has the value a / c is finite and without a minus sign
-value-counted : (z : Float) (a c : ℕ) → HasValue z false a c → T (counted z)
-value-counted nan a c v = v
-value-counted (inf s) a c v = v
-value-counted (fin true m e) a c v = absurd (true≢false (v .0))
-value-counted (fin false m e) a c v = tt
-
--- ---- what is rounded from a fraction that is not below zero is not below zero
-
--- so many units are not below zero
-units-grown : (q k : ℕ) → T (grown (units binary64 false q k))
-unfolding units
-units-grown q k = go (ltb (q * 2 ^ k) (2 ^ 2098))
-  where
-    go : (b : Bool) → T (grown (cond b (odd 54 false q k 1074) (inf false)))
-    go true = counted-grown (odd 54 false q k 1074) (value-counted (odd 54 false q k 1074) (q * 2 ^ k) (2 ^ 1074) (odd-sign 54 false q k 1074))
-    go false = tt
-
--- nor is a fraction, rounded
-round-grown : (a c : ℕ) → T (grown (round binary64 false a c))
-round-grown a c = rw (round-is binary64 false a c) (units-grown _ _)
-
--- ---- a value that is not below zero, rounded, is itself
-
--- the fraction of a value's units, rounded, is the value
-round-self : (v : Float) → T (fits binary64 v) → T (counted v) → round binary64 false (unitsIn v) (2 ^ 1074) ≡ v
-round-self v f c =
-    let g = grid-of v f c in
-    let e = units-of v false (g .0 * 2 ^ g .1) (g .2) in
-    let h = round-exact binary64 false (unitsIn v) (2 ^ 1074) (g .0) (g .1) (pow-pos 1074) (g .3)
-    (lt-of-lt-of-le (shl-lt 53 (g .1) (g .3)) (pow-mono (room (g .1) (g .4)))) (ap (λ (n : ℕ). n * 2 ^ 1074) e) in
-    let r = round binary64 false (unitsIn v) (2 ^ 1074) in
-    same-units r v (round-fits binary64 false (unitsIn v) (2 ^ 1074)) f (value-counted r (unitsIn v) (2 ^ 1074) h) c (units-of r false (unitsIn v) h)
-  where
-    room : (k : ℕ) → k ≤ 2045 → 53 + k ≤ 1074 + 1024
-    room k h = omega arith
+use Rattle.floats.proofs.Rounding.{round-grown, round-self}
 
 -- ---- a square that is below v when rounded is below v
 
@@ -70,7 +32,7 @@ exact-over v x f g c p l = ⊎-elim (λ (h : unitsIn x * unitsIn x < radicand v)
         let t = mul-at binary64 x x (unitsIn x) (2 ^ 1074) (unitsIn x) (2 ^ 1074) p p (pow-pos 1074) (pow-pos 1074) w w in
         let m = round-mono binary64 (unitsIn v) (2 ^ 1074) (unitsIn x * unitsIn x) (2 ^ 1074 * 2 ^ 1074) (pow-pos 1074) (mul-pos (pow-pos 1074) (pow-pos 1074))
         (le-trans (le-of-eq (sym (mul-assoc (unitsIn v) (2 ^ 1074) (2 ^ 1074)))) (mul-le-mul-right (2 ^ 1074) h)) in
-        no-lower v (round binary64 false (unitsIn x * unitsIn x) (2 ^ 1074 * 2 ^ 1074)) c (round-grown (unitsIn x * unitsIn x) (2 ^ 1074 * 2 ^ 1074)) (rw (round-self v f c) at m) (rw t at l)
+        no-lower v (round binary64 false (unitsIn x * unitsIn x) (2 ^ 1074 * 2 ^ 1074)) c (round-grown binary64 (unitsIn x * unitsIn x) (2 ^ 1074 * 2 ^ 1074)) (rw (round-self v f c) at m) (rw t at l)
 
 -- and then x is at most the root
 reaches-root : (v x : Float) → T (fits binary64 v) → T (fits binary64 x) → T (positive v) → T (counted x) → unitsIn x * unitsIn x < radicand v → unitsIn x ≤ unitsIn (sqrt v)
@@ -128,7 +90,7 @@ square-grown nan h = absurd h
 square-grown (inf true) h = absurd h
 square-grown (inf false) h = tt
 square-grown (fin true m e) h = absurd h
-square-grown (fin false m e) h = round-grown (m * up e * (m * up e)) (down e * down e)
+square-grown (fin false m e) h = round-grown binary64 (m * up e * (m * up e)) (down e * down e)
 
 -- what is above such a value is one too
 grown-above : (e x : Float) → T (grown e) → lt e x ≡ true → T (grown x)

@@ -1,23 +1,22 @@
 -- A sum of squares is at most a limit only where each of the squares is.
 use mathlib.Core.Path.{_≡_, refl, sym, ap, _∙_}
 use mathlib.Core.Logic.{⊎-elim}
-use mathlib.Core.Bool.{Bool, true, false, not, cond, true≢false, false≢true}
+use mathlib.Core.Bool.{Bool, true, false, not, false≢true}
 use Prim.Native.Nat.{ℕ, _+_, _*_, _^_, _≤_, _<_}
-use native.Mathlib.Nat.{le-trans, le-of-eq, lt-of-lt-of-le, mul-assoc, mul-comm, mul-left-comm, mul-le-mul-right, mul-pos}
+use native.Mathlib.Nat.{le-trans, le-of-eq, mul-assoc, mul-comm, mul-left-comm, mul-le-mul-right, mul-pos}
 use native.Mathlib.Omega.{arith}
 use lib.IntN.{ℤ}
-use lib.Dec.{T, ltb}
-use lib.Pow.{pow-pos, pow-mono, shl-lt}
-use lib.Ieee.{Float, nan, inf, fin, binary64, up, down, odd, units, round, add, mul, lt, le, fits}
-use lib.Ieee.Exact.{HasValue, odd-sign, round-exact}
-use lib.Ieee.Fits.{down-pos, round-is, round-fits, add-fits, mul-fits}
+use lib.Dec.{T}
+use lib.Pow.{pow-pos}
+use lib.Ieee.{Float, nan, inf, fin, binary64, up, down, round, add, mul, lt, le, fits}
+use lib.Ieee.Fits.{down-pos, round-fits, add-fits, mul-fits}
 use lib.Ieee.Order.{round-mono}
 use borrow.Author.Tests.{lt-ltb, le-ltb}
 use Rattle.laws.proofs.Tests.{tested, clash, split}
 use Rattle.floats.specs.Root.{unitsIn, counted}
-use Rattle.floats.proofs.Fields.{units-of, units-exact, grid-of}
-use Rattle.floats.proofs.Nearest.{same-units}
-use Rattle.floats.proofs.Monotone.{units-lt, no-lower, counted-grown, top}
+use Rattle.floats.proofs.Fields.{units-exact}
+use Rattle.floats.proofs.Monotone.{units-lt, grown, no-lower, counted-grown, top}
+use Rattle.floats.proofs.Rounding.{round-grown, round-self}
 
 -- a NaN, or without a minus sign
 abbrev plain : Float → Bool
@@ -31,22 +30,13 @@ squares x y z = add binary64 (add binary64 (mul binary64 x x) (mul binary64 y y)
 
 -- ---- squares and their sums are plain
 
-value-plain : (z : Float) (a c : ℕ) → HasValue z false a c → T (plain z)
-value-plain nan a c v = absurd v
-value-plain (inf s) a c v = absurd v
-value-plain (fin true m e) a c v = absurd (true≢false (v .0))
-value-plain (fin false m e) a c v = tt
-
-units-plain : (q k : ℕ) → T (plain (units binary64 false q k))
-unfolding units
-units-plain q k = go (ltb (q * 2 ^ k) (2 ^ 2098))
-  where
-    go : (b : Bool) → T (plain (cond b (odd 54 false q k 1074) (inf false)))
-    go true = value-plain (odd 54 false q k 1074) (q * 2 ^ k) (2 ^ 1074) (odd-sign 54 false q k 1074)
-    go false = tt
+grown-plain : (z : Float) → T (grown z) → T (plain z)
+grown-plain nan g = tt
+grown-plain (inf s) g = g
+grown-plain (fin s m e) g = g
 
 round-plain : (a c : ℕ) → T (plain (round binary64 false a c))
-round-plain a c = rw (round-is binary64 false a c) (units-plain _ _)
+round-plain a c = grown-plain (round binary64 false a c) (round-grown binary64 a c)
 
 square-plain : (x : Float) → T (plain (mul binary64 x x))
 unfolding mul
@@ -71,25 +61,6 @@ sum-plain (fin false m e) (fin true n d) g h = absurd h
 sum-plain (fin false m e) (fin false n d) g h = round-plain (m * up e * down d + n * up d * down e) (down e * down d)
 
 -- ---- what is finite and without a minus sign, in units
-
-value-counted : (z : Float) (a c : ℕ) → HasValue z false a c → T (counted z)
-value-counted nan a c v = v
-value-counted (inf s) a c v = v
-value-counted (fin true m e) a c v = absurd (true≢false (v .0))
-value-counted (fin false m e) a c v = tt
-
--- such a value, rounded, is itself
-round-self : (v : Float) → T (fits binary64 v) → T (counted v) → round binary64 false (unitsIn v) (2 ^ 1074) ≡ v
-round-self v f c =
-    let g = grid-of v f c in
-    let e = units-of v false (g .0 * 2 ^ g .1) (g .2) in
-    let h = round-exact binary64 false (unitsIn v) (2 ^ 1074) (g .0) (g .1) (pow-pos 1074) (g .3)
-    (lt-of-lt-of-le (shl-lt 53 (g .1) (g .3)) (pow-mono (room (g .1) (g .4)))) (ap (λ (n : ℕ). n * 2 ^ 1074) e) in
-    let r = round binary64 false (unitsIn v) (2 ^ 1074) in
-    same-units r v (round-fits binary64 false (unitsIn v) (2 ^ 1074)) f (value-counted r (unitsIn v) (2 ^ 1074) h) c (units-of r false (unitsIn v) h)
-  where
-    room : (k : ℕ) → k ≤ 2045 → 53 + k ≤ 1074 + 1024
-    room k h = omega arith
 
 -- the order of such values is that of their units
 le-units : (x y : Float) → T (fits binary64 x) → T (fits binary64 y) → T (counted x) → T (counted y) → T (le x y) → unitsIn x ≤ unitsIn y

@@ -1,7 +1,6 @@
 -- Each step goes on from a place that was reached.
-use Prim.Native.Nat.{_≤_, _<_, _/_}
+use Prim.Native.Nat.{_≤_, _<_}
 use native.Mathlib.Omega.{arith}
-use borrow.Author.Needs.{needs}
 use Rattle.snap.specs.Steps.{Reached}
 use Rattle.snap.proofs.passing.land.Statement.{statement}
 use Rattle.snap.proofs.passing.land.Tie as tie

@@ -1,6 +1,4 @@
 -- From j to the place that was reached all are passed over (Between).
-use Prim.Native.Nat.{_+_}
-use mathlib.Core.Path.{sym, _∙_}
 use native.Mathlib.Omega.{arith}
 use borrow.Author.Needs.{needs}
 use Rattle.snap.proofs.Parts.{in-slice}
