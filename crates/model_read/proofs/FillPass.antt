@@ -1,5 +1,5 @@
 -- The filling pass: what holds at a place of the file, and what a record changes.
-use Prim.Native.Nat.{ℕ, _+_, _-_, _≤_, _<_}
+use Prim.Native.Nat.{ℕ, _+_, _*_, _-_, _≤_, _<_}
 use mathlib.Core.Path.{_≡_, refl, sym, ap, _∙_, subst}
 use mathlib.Core.List.{List, [], _∷_, _++_}
 use mathlib.Core.Bool.{Bool, true, false, cond}
@@ -14,15 +14,16 @@ use Rattle.laws.specs.Lists.{onlyIf}
 use Rattle.laws.proofs.Stores.{sets-append}
 use Rattle.laws.proofs.Tests.{clash}
 use Rattle.model_file.specs.Records.{letter, count, coordsIn, kindsIn, wordsIn, endsIn, stage, misplaced, recordOff}
-use Rattle.model_file.specs.File.{records, coordsOf, kindsOf, wordsOf, endsOf, opens}
+use Rattle.model_file.specs.File.{chop, records, coordsOf, kindsOf, wordsOf, endsOf, opens}
 use Rattle.model_file.specs.Steps.{judge, recordRefusal}
 use Rattle.model_file.specs.declared.Letter.{Letter}
 use Rattle.model_file.specs.declared.Letter.the-variants.{Node, Cell, More, Last, Other}
 use Rattle.model_file.proofs.Judgement.{two-rows, passed, after-last, none-left, stage-lt}
 use Rattle.model_file.proofs.Decoded.{kinds-step, ends-step}
-use Rattle.model_read.specs.Steps.{Room, Put, Fitting, Filled}
+use Rattle.model_read.specs.Steps.{Nodes, nodeCoords, Room, Put, Fitting, Filled}
 use Rattle.model_read.specs.declared.Place.{Place}
-use Rattle.model_read.proofs.JudgePass.{Judging, judging-start, judging-step, records-step, records-end, fits, part-length, part32, little}
+use Rattle.model_read.proofs.JudgePass.{Judging, judging-step, records-step, records-end, fits, part-length, part32, little}
+use Rattle.model_read.proofs.LeadingNodes.{behind, judging-start, nodes-stored}
 
 -- ---- the ends: where the next goes, and whether a cell is open
 
@@ -78,11 +79,11 @@ ends-as-cells rs j = let e = ends-count rs 0 false 0 (omega arith) j in omega ar
 
 -- ---- the pass
 
--- the lists so far, and what is left
-pub record Filling (s : List ℕ) (coords₀ : List Float) (kinds₀ ends₀ words₀ : List ℕ) (coords : List Float) (kinds ends words : List ℕ) (p : Place) (at : ℕ) : Type 0 where
+-- the lists so far, and what is left, behind n nodes
+pub record Filling (s : List ℕ) (n : ℕ) (coords₀ : List Float) (kinds₀ ends₀ words₀ : List ℕ) (coords : List Float) (kinds ends words : List ℕ) (p : Place) (at : ℕ) : Type 0 where
   pub st : ℕ
   pub judging : Judging s st p at
-  pub coords-are : sets coords (p .coords) (coordsOf (records (drop at s))) ≡ sets coords₀ 0 (coordsOf (records s))
+  pub coords-are : sets coords (p .coords) (coordsOf (records (drop at s))) ≡ sets coords₀ (3 * n) (coordsOf (records (drop (32 * n) s)))
   pub kinds-are : sets kinds (p .cells) (kindsOf (records (drop at s))) ≡ sets kinds₀ 0 (kindsOf (records s))
   pub ends-are : sets ends (p .cells - 1) (endsOf (ltb 0 (p .cells)) (p .words) (records (drop at s))) ≡ sets ends₀ 0 (endsOf false 0 (records s))
   pub words-are : sets words (p .words) (wordsOf (records (drop at s))) ≡ sets words₀ 0 (wordsOf (records s))
@@ -91,12 +92,33 @@ pub record Filling (s : List ℕ) (coords₀ : List Float) (kinds₀ ends₀ wor
   pub ends-long : length ends ≡ length ends₀
   pub words-long : length words ≡ length words₀
 
-module _ (s : List ℕ) (coords₀ : List Float) (kinds₀ ends₀ words₀ : List ℕ) (ok : Fitting s (length coords₀) (length kinds₀) (length ends₀) (length words₀)) where
-  -- the start of the pass
-  pub filling-start : Filling s coords₀ kinds₀ ends₀ words₀ coords₀ kinds₀ ends₀ words₀ (record { coords = 0; cells = 0; words = 0 }) 0
-  filling-start = record { st = 0; judging = judging-start s (ok .whole); coords-are = refl; kinds-are = refl; ends-are = refl; words-are = refl; coords-long = refl; kinds-long = refl; ends-long = refl; words-long = refl }
+-- there is room for the leading nodes
+pub nodes-room : (s : List ℕ) (n coords kinds ends words : ℕ) → Fitting s coords kinds ends words → Nodes s n → 3 * n ≤ coords
+nodes-room s n coords kinds ends words ok h = omega (arith, judging-start s n (ok .whole) h .coords, ok .coordsFit)
 
-  module _ (coords : List Float) (kinds ends words : List ℕ) (p : Place) (at : ℕ) (f : Filling s coords₀ kinds₀ ends₀ words₀ coords kinds ends words p at) (lt : at < length s) where
+module _ (s : List ℕ) (n : ℕ) (entry coords₀ : List Float) (kinds₀ ends₀ words₀ : List ℕ) (ok : Fitting s (length entry) (length kinds₀) (length ends₀) (length words₀)) (h : Nodes s n) (w : coords₀ ≡ sets entry 0 (nodeCoords (chop n s))) where
+  -- storing the leading nodes keeps the length
+  long₀ : length coords₀ ≡ length entry
+  long₀ = ap length w ∙ length-sets entry 0 (nodeCoords (chop n s))
+
+  -- the start of the pass, behind them
+  pub filling-start : Filling s n coords₀ kinds₀ ends₀ words₀ coords₀ kinds₀ ends₀ words₀ (record { coords = 3 * n; cells = 0; words = 0 }) (32 * n)
+  filling-start =
+      let p = behind s n h in
+      record {
+        st = 0;
+        judging = judging-start s n (ok .whole) h;
+        coords-are = refl;
+        kinds-are = ap (sets kinds₀ 0) (p .kinds);
+        ends-are = ap (sets ends₀ 0) (p .ends);
+        words-are = ap (sets words₀ 0) (p .words);
+        coords-long = refl;
+        kinds-long = refl;
+        ends-long = refl;
+        words-long = refl;
+      }
+
+  module _ (coords : List Float) (kinds ends words : List ℕ) (p : Place) (at : ℕ) (f : Filling s n coords₀ kinds₀ ends₀ words₀ coords kinds ends words p at) (lt : at < length s) where
     -- a whole record is left, and not refused
     room : at + 32 ≤ length s
     room = fits s (f .st) p at (f .judging) lt
@@ -123,7 +145,7 @@ module _ (s : List ℕ) (coords₀ : List Float) (kinds₀ ends₀ words₀ : Li
         record {
           long = long;
           little = few .words;
-          coordsFit = omega (arith, a, j .coords, ok .coordsFit, f .coords-long);
+          coordsFit = omega (arith, a, j .coords, ok .coordsFit, f .coords-long, long₀);
           kindsFit = omega (arith, b, j .cells, ok .kindsFit, f .kinds-long);
           endsFit = omega (arith, j .cells, ok .endsFit, f .ends-long);
           wordsFit = omega (arith, c, j .words, ok .wordsFit, f .words-long);
@@ -134,13 +156,13 @@ module _ (s : List ℕ) (coords₀ : List Float) (kinds₀ ends₀ words₀ : Li
 
     -- it is stored
     pub filling-step : (coords' : List Float) (kinds' ends' words' : List ℕ) (q : Place) → Put (take 32 (drop at s)) p q coords coords' kinds kinds' ends ends' words words'
-        → Filling s coords₀ kinds₀ ends₀ words₀ coords' kinds' ends' words' q (at + 32)
+        → Filling s n coords₀ kinds₀ ends₀ words₀ coords' kinds' ends' words' q (at + 32)
     filling-step coords' kinds' ends' words' q u =
         let x = take 32 (drop at s) in
         let rs = records (drop (at + 32) s) in
         let t = records-step s at room in
         let l = letter x in
-        subst (λ (y : Place). Filling s coords₀ kinds₀ ends₀ words₀ coords' kinds' ends' words' y (at + 32)) (sym (u .place))
+        subst (λ (y : Place). Filling s n coords₀ kinds₀ ends₀ words₀ coords' kinds' ends' words' y (at + 32)) (sym (u .place))
         (record {
           st = stage (letter x) x;
           judging = judging-step s (f .st) p at (f .judging) lt (well .0);
@@ -159,12 +181,12 @@ module _ (s : List ℕ) (coords₀ : List Float) (kinds₀ ends₀ words₀ : Li
         })
 
   -- the end of the pass
-  pub filling-end : (coords : List Float) (kinds ends words : List ℕ) (p : Place) (at : ℕ) → Filling s coords₀ kinds₀ ends₀ words₀ coords kinds ends words p at → length s ≤ at
-      → Filled s coords₀ coords kinds₀ kinds ends₀ ends words₀ words
+  pub filling-end : (coords : List Float) (kinds ends words : List ℕ) (p : Place) (at : ℕ) → Filling s n coords₀ kinds₀ ends₀ words₀ coords kinds ends words p at → length s ≤ at
+      → Filled s entry coords kinds₀ kinds ends₀ ends words₀ words
   filling-end coords kinds ends words p at f end =
       let t = records-end s at end in
       record {
-        coordsAre = sym (ap (λ (y : List (List ℕ)). sets coords (p .coords) (coordsOf y)) t) ∙ f .coords-are;
+        coordsAre = sym (ap (λ (y : List (List ℕ)). sets coords (p .coords) (coordsOf y)) t) ∙ f .coords-are ∙ nodes-stored entry coords₀ n s h w;
         kindsAre = sym (ap (λ (y : List (List ℕ)). sets kinds (p .cells) (kindsOf y)) t) ∙ f .kinds-are;
         endsAre = sym (ap (λ (y : List (List ℕ)). sets ends (p .cells - 1) (endsOf (ltb 0 (p .cells)) (p .words) y)) t) ∙ f .ends-are;
         wordsAre = sym (ap (λ (y : List (List ℕ)). sets words (p .words) (wordsOf y)) t) ∙ f .words-are;

@@ -1,6 +1,6 @@
 -- The judging pass: what holds at a place of the file, and what a record changes.
 use Prim.Native.Nat.{ℕ, suc, _+_, _-_, _/_, _%_, _≤_, _<_}
-use mathlib.Core.Path.{_≡_, refl, sym, ap, _∙_}
+use mathlib.Core.Path.{_≡_, sym, ap, _∙_}
 use mathlib.Core.Logic.{_≢_}
 use mathlib.Core.List.{List, [], _∷_, _++_}
 use mathlib.Core.Bool.{Bool, true, false, _&&_}
@@ -10,7 +10,6 @@ use lib.ListN.{length, getD, take, drop, length-append, length-drop, drop-of-len
 use lib.Seq.{drop-drop, length-take-le}
 use lib.Dec.{eqb}
 use borrow.Author.Tests.{eq-eqb, ne-eqb, not-false}
-use Rattle.laws.specs.Refusals.{refusal}
 use Rattle.laws.proofs.Tables.{Numbered, refusal-first, refusal-second}
 use Rattle.laws.proofs.Tests.{and-parts}
 use Rattle.model_file.specs.Records.{letter, count, coordsIn, kindsIn, wordsIn, stage, misplaced, recordOff, wordsRight}
@@ -118,10 +117,6 @@ module _ (s : List ℕ) (st : ℕ) (p : Place) (at : ℕ) (j : Judging s st p at
         few-cells = omega (arith, few .cells, j .few-cells);
         few-words = omega (arith, few .words, j .few-words);
       }
-
--- the start of the pass
-pub judging-start : (s : List ℕ) → length s % 32 ≡ 0 → Judging s 0 (record { coords = 0; cells = 0; words = 0 }) 0
-judging-start s h = record { inside = omega arith; whole = omega arith; judged = refl; coords = omega arith; cells = omega arith; words = omega arith; few-coords = omega arith; few-cells = omega arith; few-words = omega arith }
 
 -- the end of the pass
 module _ (s : List ℕ) (st : ℕ) (p : Place) (at : ℕ) (j : Judging s st p at) (end : length s ≤ at) where

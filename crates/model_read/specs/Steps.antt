@@ -1,16 +1,19 @@
 -- For internal contracts: how far the lists are filled, and what the passes over records need and leave.
-use Prim.Native.Nat.{ℕ, _+_, _-_, _/_, _%_, _^_, _≤_, _<_}
+use Prim.Native.Nat.{ℕ, suc, _+_, _*_, _-_, _/_, _%_, _^_, _≤_, _<_}
 use mathlib.Core.Path.{_≡_}
-use mathlib.Core.Bool.{Bool, false, _||_}
-use mathlib.Core.List.{List}
-use lib.Dec.{ltb}
-use lib.ListN.{length}
-use lib.Seq.{sets}
+use mathlib.Core.Bool.{Bool, false, cond, _&&_, _||_}
+use mathlib.Core.List.{List, [], _∷_}
+use lib.Dec.{eqb, ltb}
+use lib.ListN.{length, getD}
+use lib.Seq.{slice, sets}
 use lib.Ieee.{Float}
+use Rattle.laws.specs.Bytes.{zeros}
+use Rattle.laws.specs.Lists.{each}
 use Rattle.model_file.specs.Records.{letter, byte1, floatAt, capIn, coordsIn, kindsIn, wordsIn, endsIn}
 use Rattle.model_file.specs.File.{records, coordsOf, kindsOf, wordsOf, endsOf}
 use Rattle.model_file.specs.Steps.{judge}
 use Rattle.model_file.specs.declared.Letter.{Letter}
+use Rattle.model_file.specs.declared.Letter.the-variants.{Node}
 use Rattle.model_file.specs.declared.Found.{Found}
 use Rattle.model_read.specs.declared.Place.{Place}
 use Rattle.model_read.specs.declared.Tally.{Tally}
@@ -18,6 +21,24 @@ use Rattle.model_read.specs.declared.Tally.{Tally}
 -- the place in the lists after a record
 abbrev pub after : Letter → List ℕ → Place → Place
 after l r p = record { coords = p .coords + length (coordsIn l r); cells = p .cells + length (kindsIn l r); words = p .words + length (wordsIn l r) }
+
+-- an N with nothing wrong
+abbrev pub rightNode : List ℕ → Bool
+rightNode r = eqb (getD r 0 0) 78 && zeros (slice 1 8 r)
+
+-- how many records from the first on are such
+abbrev pub leading : List (List ℕ) → ℕ
+leading [] = 0
+leading (r ∷ rs) = cond (rightNode r) (suc (leading rs)) 0
+
+-- so many of a file's
+pub record Nodes (s : List ℕ) (n : ℕ) : Type 0 where
+  pub counted : n ≡ leading (records s)
+  pub inside : 32 * n ≤ length s
+
+-- the coordinates of records that are N
+abbrev pub nodeCoords : List (List ℕ) → List Float
+nodeCoords rs = each (coordsIn Node) rs
 
 -- the judging pass: the refusal, and where there is none what the file holds
 pub record Judged (s : List ℕ) (t : Tally) : Type 0 where

@@ -1,12 +1,13 @@
 // The filling pass: what each record adds to the lists.
 ghost use mathlib.Core.Path.{_≡_};
-ghost use Prim.Native.Nat.{_+_, _-_, _≤_, _<_, _^_};
+ghost use Prim.Native.Nat.{_+_, _*_, _-_, _≤_, _<_, _^_};
 ghost use lib.Dec.{ltb};
 ghost use lib.ListN.{length, take, drop};
 ghost use lib.Seq.{sets};
 ghost use Rattle.laws.specs.Bytes.{number};
+ghost use Rattle.model_file.specs.File.{chop};
 ghost use Rattle.model_file.specs.Records.{widen, wordsAt, count, coordsIn, kindsIn, wordsIn, endsIn};
-ghost use Rattle.model_read.specs.Steps.{Room, Put, Fitting, Filled};
+ghost use Rattle.model_read.specs.Steps.{Nodes, nodeCoords, Room, Put, Fitting, Filled};
 use crate::Place;
 use crate::judging::letter_of;
 use crate::judging::place_after;
@@ -139,23 +140,39 @@ fn fill_record(
     place_after(l, r, p)
 }
 
-// The filling pass.
+// The coordinates of the first n records, all of them N.
+fn fill_nodes(bytes: &[u8], coords: &mut [f64], n: usize)
+    requires { ⌜ (32 * n ≤ length (now bytes)) × (3 * n ≤ length (now coords)) ⌝ }
+    ensures { λ _. ⌜ now (coords .exit) ≡ sets (now (coords .entry)) 0 (nodeCoords (chop n (now (bytes .entry)))) ⌝ }
+{
+    let mut i = 0;
+    while i < n {
+        let at = 32 * i;
+        let e = at + 32;
+        put_node(&bytes[at..e], coords, 3 * i);
+        i += 1;
+    }
+}
+
+// The filling pass: the leading nodes, then record by record.
 pub fn fill_all(
     bytes: &[u8],
     coords: &mut [f64],
     kinds: &mut [u8],
     ends: &mut [u32],
     words: &mut [u32],
+    nodes: usize,
 )
-    requires { ⌜ Fitting (now bytes) (length (now coords)) (length (now kinds)) (length (now ends)) (length (now words)) ⌝ }
+    requires { ⌜ Fitting (now bytes) (length (now coords)) (length (now kinds)) (length (now ends)) (length (now words)) × Nodes (now bytes) nodes ⌝ }
     ensures { λ _. ⌜ Filled (now (bytes .entry)) (now (coords .entry)) (now (coords .exit)) (now (kinds .entry)) (now (kinds .exit)) (now (ends .entry)) (now (ends .exit)) (now (words .entry)) (now (words .exit)) ⌝ }
 {
+    fill_nodes(bytes, coords, nodes);
     let mut p = Place {
-        coords: 0,
+        coords: 3 * nodes,
         cells: 0,
         words: 0,
     };
-    let mut at: usize = 0;
+    let mut at = 32 * nodes;
     while at < bytes.len() {
         let e = at + 32;
         p = fill_record(&bytes[at..e], coords, kinds, ends, words, p);

@@ -7,7 +7,7 @@ ghost use lib.Seq.{slice};
 ghost use Rattle.laws.specs.Bytes.{zeros};
 ghost use Rattle.model_file.specs.Records.{letterOf, letter, misplaced, stage, recordOff, wordsRight};
 ghost use Rattle.model_file.specs.Steps.{recordRefusal};
-ghost use Rattle.model_read.specs.Steps.{after, Judged};
+ghost use Rattle.model_read.specs.Steps.{after, Nodes, Judged};
 use crate::Place;
 use crate::Tally;
 use model_file::Letter;
@@ -191,18 +191,33 @@ fn tally_of(n: u8, p: Place) -> Tally
     }
 }
 
-// The judging pass.
-pub fn judge_all(bytes: &[u8]) -> Tally
-    requires { ⌜ (length (now bytes) % 32 ≡ 0) × (length (now bytes) ≤ 4194304) ⌝ }
+// How many records from the first on are N with nothing wrong: their first eight bytes are 78 and zeros.
+pub fn leading_nodes(bytes: &[u8]) -> usize
+    ensures { λ n. ⌜ Nodes (now (bytes .entry)) n ⌝ }
+{
+    let most = bytes.len() / 32;
+    let mut n = 0;
+    while n < most {
+        if floats::le_u64(bytes, 32 * n) != 78 {
+            return n;
+        }
+        n += 1;
+    }
+    n
+}
+
+// The judging pass, from behind the leading nodes on.
+pub fn judge_all(bytes: &[u8], nodes: usize) -> Tally
+    requires { ⌜ (length (now bytes) % 32 ≡ 0) × (length (now bytes) ≤ 4194304) × Nodes (now bytes) nodes ⌝ }
     ensures { λ t. ⌜ Judged (now (bytes .entry)) t ⌝ }
 {
     let mut stage: u8 = 0;
     let mut p = Place {
-        coords: 0,
+        coords: 3 * nodes,
         cells: 0,
         words: 0,
     };
-    let mut at: usize = 0;
+    let mut at = 32 * nodes;
     while at < bytes.len() {
         let e = at + 32;
         let r = &bytes[at..e];

@@ -8,6 +8,7 @@ ghost use Rattle.model_file.specs.Reading.{Reading};
 ghost use Rattle.model_read.specs.Steps.{short as shortOf, foundAt};
 use filling::fill_all;
 use judging::judge_all;
+use judging::leading_nodes;
 use model_file::Found;
 use model_file::ReadAnswer;
 
@@ -85,7 +86,8 @@ pub fn read(
     if length_off(n) {
         return ReadAnswer::Refused(1);
     }
-    let t = judge_all(bytes);
+    let nodes = leading_nodes(bytes);
+    let t = judge_all(bytes, nodes);
     let no = t.refusal;
     if no != 0 {
         return ReadAnswer::Refused(no);
@@ -94,7 +96,7 @@ pub fn read(
     if room_off(p, coords.len(), kinds.len(), ends.len(), words.len()) {
         return ReadAnswer::Refused(4);
     }
-    fill_all(bytes, coords, kinds, ends, words);
+    fill_all(bytes, coords, kinds, ends, words, nodes);
     let last = n - 32;
     ReadAnswer::Read(found_in(&bytes[last..n], p))
 }

@@ -17,14 +17,14 @@ whole : (c : tie.Else1) → Whole (c .before .before .before .before .before .be
 whole c = length-whole (c .before .before .before .before .before .before .before .args .bytes .now) (right-length c)
 
 -- there is room
-room : (c : tie.Else3) → short (c .before .before .before .before .judge-all .result .place) (length (c .before .before .before .before .before .before .before .before .before .before .before .before .args .coords .now)) (length (c .before .before .before .before .before .before .before .before .before .before .before .before .args .kinds .now)) (length (c .before .before .before .before .before .before .before .before .before .before .before .before .args .ends .now)) (length (c .before .before .before .before .before .before .before .before .before .before .before .before .args .words .now)) ≡ false
+room : (c : tie.Else3) → short (c .before .before .before .before .judge-all .result .place) (length (c .before .before .before .before .before .before .before .before .before .before .before .before .before .args .coords .now)) (length (c .before .before .before .before .before .before .before .before .before .before .before .before .before .args .kinds .now)) (length (c .before .before .before .before .before .before .before .before .before .before .before .before .before .args .ends .now)) (length (c .before .before .before .before .before .before .before .before .before .before .before .before .before .args .words .now)) ≡ false
 room c = sym (c .before .room-off .ensures) ∙ c .if3 .left
 
-fits : (c : tie.Else3) → Fitting (c .before .before .before .before .before .before .before .before .before .before .before .before .args .bytes .now) (length (c .before .before .before .before .before .before .before .before .before .before .before .before .args .coords .now)) (length (c .before .before .before .before .before .before .before .before .before .before .before .before .args .kinds .now)) (length (c .before .before .before .before .before .before .before .before .before .before .before .before .args .ends .now)) (length (c .before .before .before .before .before .before .before .before .before .before .before .before .args .words .now))
+fits : (c : tie.Else3) → Fitting (c .before .before .before .before .before .before .before .before .before .before .before .before .before .args .bytes .now) (length (c .before .before .before .before .before .before .before .before .before .before .before .before .before .args .coords .now)) (length (c .before .before .before .before .before .before .before .before .before .before .before .before .before .args .kinds .now)) (length (c .before .before .before .before .before .before .before .before .before .before .before .before .before .args .ends .now)) (length (c .before .before .before .before .before .before .before .before .before .before .before .before .before .args .words .now))
 fits c =
-    let a = c .before .before .before .before .before .before .before .before .before .before .before .before .args in
+    let a = c .before .before .before .before .before .before .before .before .before .before .before .before .before .args in
     let j = c .before .before .before .before .judge-all in
-    fitting (a .bytes .now) (a .coords .now) (a .kinds .now) (a .ends .now) (a .words .now) (j .result) (j .ensures) (c .before .before .before .if2 .left) (right-length (c .before .before .before .before .before)) (room c)
+    fitting (a .bytes .now) (a .coords .now) (a .kinds .now) (a .ends .now) (a .words .now) (j .result) (j .ensures) (c .before .before .before .if2 .left) (right-length (c .before .before .before .before .before .before)) (room c)
 
 length-off-requires : tie.Need-length-off-requires
 length-off-requires c κs = search needs
@@ -36,16 +36,19 @@ returns c =
     (refused-length (a .bytes .now) (a .coords .now) (a .kinds .now) (a .ends .now) (a .words .now) (sym (c .before .length-off .ensures) ∙ c .if1 .taken))
     (λ z. omega arith)
 
+leading-nodes-requires : tie.Need-leading-nodes-requires
+leading-nodes-requires c κs = search needs
+
 judge-all-requires : tie.Need-judge-all-requires
-judge-all-requires c κs = (whole c .whole, whole c .few)
+judge-all-requires c κs = (whole (c .before) .whole, whole (c .before) .few, c .leading-nodes .ensures)
 
 returns-2 : tie.Need-returns-2
 returns-2 c =
-    let a = c .before .before .before .before .before .before .before .before .before .args in
+    let a = c .before .before .before .before .before .before .before .before .before .before .args in
     let j = c .before .judge-all in
     let e = j .ensures .refusal in
     reading-refused (a .bytes .now) (a .coords .now) (a .kinds .now) (a .ends .now) (a .words .now) (j .result .refusal)
-    (refused-records (a .bytes .now) (a .coords .now) (a .kinds .now) (a .ends .now) (a .words .now) (right-length (c .before .before)) (λ z. c .if2 .taken (e ∙ z)) ∙ sym e)
+    (refused-records (a .bytes .now) (a .coords .now) (a .kinds .now) (a .ends .now) (a .words .now) (right-length (c .before .before .before)) (λ z. c .if2 .taken (e ∙ z)) ∙ sym e)
     (c .if2 .taken)
 
 room-off-requires : tie.Need-room-off-requires
@@ -53,17 +56,17 @@ room-off-requires c κs = search needs
 
 returns-3 : tie.Need-returns-3
 returns-3 c =
-    let a = c .before .before .before .before .before .before .before .before .before .before .before .before .args in
+    let a = c .before .before .before .before .before .before .before .before .before .before .before .before .before .args in
     let j = c .before .before .before .before .judge-all in
     reading-refused (a .bytes .now) (a .coords .now) (a .kinds .now) (a .ends .now) (a .words .now) 4
-    (refused-room (a .bytes .now) (a .coords .now) (a .kinds .now) (a .ends .now) (a .words .now) (j .result) (j .ensures) (c .before .before .before .if2 .left) (right-length (c .before .before .before .before .before)) (sym (c .before .room-off .ensures) ∙ c .if3 .taken))
+    (refused-room (a .bytes .now) (a .coords .now) (a .kinds .now) (a .ends .now) (a .words .now) (j .result) (j .ensures) (c .before .before .before .if2 .left) (right-length (c .before .before .before .before .before .before)) (sym (c .before .room-off .ensures) ∙ c .if3 .taken))
     (λ z. omega arith)
 
 fill-all-requires : tie.Need-fill-all-requires
-fill-all-requires c κs = fits (c .before .before .before .before)
+fill-all-requires c κs = (fits (c .before .before .before .before), c .before .before .before .before .before .before .before .before .before .leading-nodes .ensures)
 
 sub-last : tie.Need-sub-last
-sub-last c = omega (arith, whole (c .before .before .before .before .before .before .before .before .before .before .before .before .before .before .before .before .before .before) .some, whole (c .before .before .before .before .before .before .before .before .before .before .before .before .before .before .before .before .before .before) .whole)
+sub-last c = omega (arith, whole (c .before .before .before .before .before .before .before .before .before .before .before .before .before .before .before .before .before .before .before) .some, whole (c .before .before .before .before .before .before .before .before .before .before .before .before .before .before .before .before .before .before .before) .whole)
 
 sub-found-in : tie.Need-sub-found-in
 sub-found-in c = search needs
@@ -75,7 +78,7 @@ part-found-in-end : tie.Need-part-found-in-end
 part-found-in-end c = search needs
 
 found-in-requires : tie.Need-found-in-requires
-found-in-requires c κs = omega (arith, whole (c .before .before .before .before .before .before .before .before .before .before .before .before .before .before .before .before .before .before .before) .some, whole (c .before .before .before .before .before .before .before .before .before .before .before .before .before .before .before .before .before .before .before) .whole)
+found-in-requires c κs = omega (arith, whole (c .before .before .before .before .before .before .before .before .before .before .before .before .before .before .before .before .before .before .before .before) .some, whole (c .before .before .before .before .before .before .before .before .before .before .before .before .before .before .before .before .before .before .before .before) .whole)
 
 same-length : tie.Need-same-length
 same-length c = search needs
@@ -91,15 +94,15 @@ same-length-4 c = search needs
 
 returns-4 : tie.Need-returns-4
 returns-4 c =
-    let a = c .before .before .before .before .before .before .before .before .before .before .before .before .before .before .before .before .before .before .before .before .before .before .before .before .before .before .before .args in
+    let a = c .before .before .before .before .before .before .before .before .before .before .before .before .before .before .before .before .before .before .before .before .before .before .before .before .before .before .before .before .args in
     let s = a .bytes .now in
-    let w = whole (c .before .before .before .before .before .before .before .before .before .before .before .before .before .before .before .before .before .before .before .before) in
+    let w = whole (c .before .before .before .before .before .before .before .before .before .before .before .before .before .before .before .before .before .before .before .before .before) in
     let j = c .before .before .before .before .before .before .before .before .before .before .before .before .before .before .before .before .before .before .before .judge-all in
     let z = c .before .before .before .before .before .before .before .before .before .before .before .before .before .before .before .before .before .before .if2 .left in
     let e = c .before .before .before .before .before .before .before .before .before .before .fill-all in
     reading-done s (a .coords .now) (a .kinds .now) (a .ends .now) (a .words .now) (e .last .1 .0) (e .last .1 .1 .0) (e .last .1 .1 .1 .0) (e .last .1 .1 .1 .1 .0) (c .found-in .result)
     (c .found-in .ensures ∙ found-is s _ (j .result .place) (last-lent s (w .some) (w .whole)) (j .ensures .coords z) (j .ensures .cells z) (j .ensures .words z))
-    (refused-none s (a .coords .now) (a .kinds .now) (a .ends .now) (a .words .now) (j .result) (j .ensures) z (right-length (c .before .before .before .before .before .before .before .before .before .before .before .before .before .before .before .before .before .before .before .before)) (room (c .before .before .before .before .before .before .before .before .before .before .before .before .before .before .before)))
+    (refused-none s (a .coords .now) (a .kinds .now) (a .ends .now) (a .words .now) (j .result) (j .ensures) z (right-length (c .before .before .before .before .before .before .before .before .before .before .before .before .before .before .before .before .before .before .before .before .before)) (room (c .before .before .before .before .before .before .before .before .before .before .before .before .before .before .before)))
     (fits (c .before .before .before .before .before .before .before .before .before .before .before .before .before .before .before)) (e .ensures)
 
 pub read-spec : {M : Type 1} → statement M
@@ -108,6 +111,7 @@ read-spec =
     (tie.spec
     length-off-requires
     returns
+    leading-nodes-requires
     judge-all-requires
     returns-2
     room-off-requires

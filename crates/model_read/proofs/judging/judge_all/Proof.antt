@@ -10,18 +10,25 @@ use Rattle.model_file.specs.Records.{letter, stage}
 use Rattle.model_file.specs.Steps.{recordRefusal}
 use Rattle.model_read.specs.Steps.{after}
 use Rattle.model_read.specs.declared.Place.{Place}
-use Rattle.model_read.proofs.JudgePass.{part32, part-length, fits, Judging, judging-start, judging-step, refused-here, missing-last, judged-well, all-coords, all-cells, all-words}
+use Rattle.model_read.proofs.JudgePass.{part32, part-length, fits, Judging, judging-step, refused-here, missing-last, judged-well, all-coords, all-cells, all-words}
+use Rattle.model_read.proofs.LeadingNodes.{judging-start}
 use Rattle.model_read.proofs.judging.judge_all.Statement.{statement}
 use Rattle.model_read.proofs.judging.judge_all.Tie as tie
 
 abbrev Inv-loop : tie.InvT-loop
-Inv-loop bytes stage₀ p₀ at₀ stage p at = Judging bytes stage p at
+Inv-loop bytes nodes stage₀ p₀ at₀ stage p at = Judging bytes stage p at
 
 abbrev μ-loop : tie.MeasureT-loop
-μ-loop bytes stage₀ p₀ at₀ stage p at = length bytes - at
+μ-loop bytes nodes stage₀ p₀ at₀ stage p at = length bytes - at
+
+mul-t10 : tie.Need-mul-t10 Inv-loop μ-loop
+mul-t10 c = omega (arith, c .before .pre .2 .inside)
+
+mul-at : tie.Need-mul-at Inv-loop μ-loop
+mul-at c = omega (arith, c .before .pre .2 .inside)
 
 loop-holds : tie.Need-loop-holds Inv-loop μ-loop
-loop-holds c = judging-start (c .before .args .bytes .now) (c .before .pre .0)
+loop-holds c = judging-start (c .before .args .bytes .now) (c .before .args .nodes) (c .before .pre .0) (c .before .pre .2)
 
 add-e : tie.Need-add-e Inv-loop μ-loop
 add-e c = search needs
@@ -133,6 +140,8 @@ judge-all-spec =
     (tie.spec
     Inv-loop
     μ-loop
+    mul-t10
+    mul-at
     loop-holds
     add-e
     sub-r

@@ -1,0 +1,165 @@
+-- The leading nodes of a file: how they are counted, what they add, and what is left behind them.
+use Prim.Native.Nat.{ℕ, zero, suc, _+_, _*_, _-_, _/_, _%_, _≤_, _<_}
+use mathlib.Core.Path.{_≡_, refl, sym, ap, _∙_, subst, subst₂}
+use mathlib.Core.Bool.{Bool, true, false, not, cond, _&&_}
+use mathlib.Core.List.{List, [], _∷_, _++_}
+use native.Mathlib.Nat.{sub-zero}
+use native.Mathlib.Omega.{arith}
+use lib.Dec.{eqb}
+use lib.ListN.{length, getD, take, drop, length-append, length-drop}
+use lib.Seq.{slice, sets, take-take, drop-drop}
+use lib.Ieee.{Float}
+use borrow.Author.Tests.{eq-eqb, ne-eqb}
+use Rattle.laws.specs.Bytes.{number, zeros}
+use Rattle.laws.specs.Refusals.{refusal}
+use Rattle.laws.proofs.Stores.{take-drop, sets-append}
+use Rattle.laws.proofs.Tests.{and-parts}
+use Rattle.model_file.specs.Records.{letter, coordsIn, recordOff, misplaced, stage}
+use Rattle.model_file.specs.File.{chop, records, coordsOf, kindsOf, wordsOf, endsOf, recordsTable}
+use Rattle.model_file.specs.Steps.{judge}
+use Rattle.model_file.specs.declared.Letter.{Letter}
+use Rattle.model_file.specs.declared.Letter.the-variants.{Node}
+use Rattle.model_file.proofs.Decoded.{coords-step, kinds-step, words-step, ends-step}
+use Rattle.model_read.specs.Steps.{rightNode, leading, Nodes, nodeCoords}
+use Rattle.model_read.proofs.JudgePass.{Judging, records-step}
+use Rattle.model_read.proofs.ZeroBytes.{first-byte, zeros-number}
+
+-- ---- counting
+
+-- an N with nothing wrong, by the number of its first eight bytes
+node-number : (r : List ℕ) → rightNode r ≡ eqb (number (take 8 r)) 78
+node-number [] = refl
+node-number (b ∷ r) = ap (λ (t : Bool). eqb b 78 && t) (zeros-number (take 7 r)) ∙ first-byte b (number (take 7 r)) 78 (omega arith)
+
+-- of a record of a file
+node-read : (s : List ℕ) (at : ℕ) → rightNode (take 32 (drop at s)) ≡ eqb (number (slice at (at + 8) s)) 78
+node-read s at = node-number (take 32 (drop at s)) ∙ ap (λ (l : List ℕ). eqb (number l) 78) (take-take 8 32 (drop at s) (omega arith) ∙ take-drop at 8 s)
+
+-- one node more, no node, and no record
+next-leads : (s : List ℕ) (n : ℕ) → 32 * n + 32 ≤ length s → leading (records (drop (32 * n) s)) ≡ cond (eqb (number (slice (32 * n) (32 * n + 8) s)) 78) (suc (leading (records (drop (32 * n + 32) s)))) 0
+next-leads s n h = ap leading (records-step s (32 * n) h) ∙ ap (λ (b : Bool). cond b (suc (leading (records (drop (32 * n + 32) s)))) 0) (node-read s (32 * n))
+
+pub leading-one : (s : List ℕ) (n v : ℕ) → 32 * n + 32 ≤ length s → v ≡ number (slice (32 * n) (32 * n + 8) s) → v ≡ 78 → leading (records (drop (32 * n) s)) ≡ suc (leading (records (drop (32 * (n + 1)) s)))
+leading-one s n v h e k =
+    let d : 32 * n + 32 ≡ 32 * (n + 1) = omega arith in
+    next-leads s n h
+    ∙ ap (λ (b : Bool). cond b (suc (leading (records (drop (32 * n + 32) s)))) 0) (eq-eqb (number (slice (32 * n) (32 * n + 8) s)) 78 (sym e ∙ k))
+    ∙ ap (λ (m : ℕ). suc (leading (records (drop m s)))) d
+
+pub leading-none : (s : List ℕ) (n v : ℕ) → 32 * n + 32 ≤ length s → v ≡ number (slice (32 * n) (32 * n + 8) s) → (v ≡ 78 → ⊥) → leading (records (drop (32 * n) s)) ≡ 0
+leading-none s n v h e k =
+    next-leads s n h ∙ ap (λ (b : Bool). cond b (suc (leading (records (drop (32 * n + 32) s)))) 0) (ne-eqb (number (slice (32 * n) (32 * n + 8) s)) 78 (λ z. k (e ∙ z)))
+
+pub leading-end : (s : List ℕ) (n : ℕ) → length s / 32 ≤ n → leading (records (drop (32 * n) s)) ≡ 0
+leading-end s n h =
+    let d = length-drop (32 * n) s in
+    let z : length (drop (32 * n) s) / 32 ≡ 0 = omega arith in
+    ap (λ (k : ℕ). leading (chop k (drop (32 * n) s))) z
+
+-- ---- what they add
+
+-- nodes in front of other records
+pub record Led (front rest rs : List (List ℕ)) : Type 0 where
+  pub judged : judge 0 rest ≡ judge 0 rs
+  pub coords : coordsOf rs ≡ nodeCoords front ++ coordsOf rest
+  pub kinds : kindsOf rest ≡ kindsOf rs
+  pub ends : endsOf false 0 rest ≡ endsOf false 0 rs
+  pub words : wordsOf rest ≡ wordsOf rs
+
+-- one node more
+led-more : (r : List ℕ) (front rest rs : List (List ℕ)) → rightNode r ≡ true → Led front rest rs → Led (r ∷ front) rest (r ∷ rs)
+led-more r front rest rs h p =
+    let q = and-parts (eqb (getD r 0 0) 78) (zeros (slice 1 8 r)) h in
+    let e : letter r ≡ Node = rw (q .0) in
+    record {
+      judged = p .judged ∙ sym (ap (λ (l : Letter). refusal ((2, misplaced 0 l) ∷ (3, recordOff l r) ∷ recordsTable (stage l r) rs)) e ∙ ap (λ (b : Bool). cond (not b) 3 (judge 0 rs)) (q .1));
+      coords = coords-step r rs Node e ∙ ap (λ (l : List Float). coordsIn Node r ++ l) (p .coords);
+      kinds = p .kinds ∙ sym (kinds-step r rs Node e);
+      ends = p .ends ∙ sym (ends-step r rs Node e false 0);
+      words = p .words ∙ sym (words-step r rs Node e);
+    }
+
+-- all that lead
+led : (rs : List (List ℕ)) → Led (take (leading rs) rs) (drop (leading rs) rs) rs
+led [] = record { judged = refl; coords = refl; kinds = refl; ends = refl; words = refl }
+led (r ∷ rs) = go (rightNode r) refl (led rs)
+  where
+    go : (b : Bool) → rightNode r ≡ b → Led (take (leading rs) rs) (drop (leading rs) rs) rs → Led (take (cond b (suc (leading rs)) 0) (r ∷ rs)) (drop (cond b (suc (leading rs)) 0) (r ∷ rs)) (r ∷ rs)
+    go true e p = led-more r (take (leading rs) rs) (drop (leading rs) rs) rs e p
+    go false e p = record { judged = refl; coords = refl; kinds = refl; ends = refl; words = refl }
+
+-- ---- of a file
+
+-- the first records, and those behind them
+take-chop : (n k : ℕ) (s : List ℕ) → n ≤ k → take n (chop k s) ≡ chop n s
+take-chop zero k s h = refl
+take-chop (suc n) zero s h = absurd (omega arith)
+take-chop (suc n) (suc k) s h = ap (λ (t : List (List ℕ)). take 32 s ∷ t) (take-chop n k (drop 32 s) (omega arith))
+
+drop-chop : (n k : ℕ) (s : List ℕ) → n ≤ k → drop n (chop k s) ≡ chop (k - n) (drop (32 * n) s)
+drop-chop zero k s h = ap (λ (m : ℕ). chop m s) (sym (sub-zero k))
+drop-chop (suc n) zero s h = absurd (omega arith)
+drop-chop (suc n) (suc k) s h =
+    let a : k - n ≡ suc k - suc n = omega arith in
+    let b : 32 + 32 * n ≡ 32 * suc n = omega arith in
+    drop-chop n k (drop 32 s) (omega arith) ∙ (λ i. chop (a i) ((drop-drop (32 * n) 32 s ∙ ap (λ (m : ℕ). drop m s) b) i))
+
+-- what the leading nodes of a file add
+pub behind : (s : List ℕ) (n : ℕ) → Nodes s n → Led (chop n s) (records (drop (32 * n) s)) (records s)
+behind s n h =
+    let d = length-drop (32 * n) s in
+    let few : n ≤ length s / 32 = omega (arith, h .inside) in
+    let k : length s / 32 - n ≡ length (drop (32 * n) s) / 32 = omega (arith, h .inside) in
+    subst₂ (λ (x y : List (List ℕ)). Led x y (records s)) (take-chop n (length s / 32) s few) (drop-chop n (length s / 32) s few ∙ ap (λ (m : ℕ). chop m (drop (32 * n) s)) k)
+    (subst (λ (m : ℕ). Led (take m (records s)) (drop m (records s)) (records s)) (sym (h .counted)) (led (records s)))
+
+-- three coordinates each
+length-nodeCoords : (n : ℕ) (s : List ℕ) → length (nodeCoords (chop n s)) ≡ 3 * n
+length-nodeCoords zero s = refl
+length-nodeCoords (suc n) s = let i = length-nodeCoords n (drop 32 s) in omega (arith, length-append (coordsIn Node (take 32 s)) (nodeCoords (chop n (drop 32 s))))
+
+-- the judging pass starts behind them
+pub judging-start : (s : List ℕ) (n : ℕ) → length s % 32 ≡ 0 → Nodes s n → Judging s 0 (record { coords = 3 * n; cells = 0; words = 0 }) (32 * n)
+judging-start s n w h =
+    let p = behind s n h in
+    let a = ap length (p .coords) ∙ length-append (nodeCoords (chop n s)) (coordsOf (records (drop (32 * n) s))) in
+    let b = length-nodeCoords n s in
+    let c = ap length (p .kinds) in
+    let d = ap length (p .words) in
+    record {
+      inside = h .inside;
+      whole = omega (arith, h .inside);
+      judged = p .judged;
+      coords = omega arith;
+      cells = omega arith;
+      words = omega arith;
+      few-coords = omega arith;
+      few-cells = omega arith;
+      few-words = omega arith;
+    }
+
+-- ---- the loop that stores their coordinates: its start, a turn, its end
+
+pub nodes-start : (l : List Float) (n : ℕ) (s : List ℕ) → sets l (3 * 0) (nodeCoords (chop (n - 0) (drop (32 * 0) s))) ≡ sets l 0 (nodeCoords (chop n s))
+nodes-start l n s = rw sub-zero
+
+pub nodes-more : (l l' : List Float) (n i : ℕ) (s : List ℕ) → i < n → l' ≡ sets l (3 * i) (coordsIn Node (take 32 (drop (32 * i) s)))
+    → sets l' (3 * (i + 1)) (nodeCoords (chop (n - (i + 1)) (drop (32 * (i + 1)) s))) ≡ sets l (3 * i) (nodeCoords (chop (n - i) (drop (32 * i) s)))
+nodes-more l l' n i s h e =
+    let a : n - i ≡ suc (n - (i + 1)) = omega arith in
+    let b : 3 * i + 3 ≡ 3 * (i + 1) = omega arith in
+    let d : 32 * i + 32 ≡ 32 * (i + 1) = omega arith in
+    let r = take 32 (drop (32 * i) s) in
+    sym (ap (λ (k : ℕ). sets l (3 * i) (nodeCoords (chop k (drop (32 * i) s)))) a
+    ∙ sets-append l (3 * i) (coordsIn Node r) (nodeCoords (chop (n - (i + 1)) (drop 32 (drop (32 * i) s))))
+    ∙ (λ j. sets (sym e j) (b j) (nodeCoords (chop (n - (i + 1)) ((drop-drop 32 (32 * i) s ∙ ap (λ (k : ℕ). drop k s) d) j)))))
+
+pub nodes-end : (l : List Float) (n i : ℕ) (s : List ℕ) → n ≤ i → sets l (3 * i) (nodeCoords (chop (n - i) (drop (32 * i) s))) ≡ l
+nodes-end l n i s h = let a : n - i ≡ 0 = omega arith in rw a
+
+-- they are stored: what is left to store
+pub nodes-stored : (l l' : List Float) (n : ℕ) (s : List ℕ) → Nodes s n → l' ≡ sets l 0 (nodeCoords (chop n s)) → sets l' (3 * n) (coordsOf (records (drop (32 * n) s))) ≡ sets l 0 (coordsOf (records s))
+nodes-stored l l' n s h e =
+    let rest = coordsOf (records (drop (32 * n) s)) in
+    let k : 0 + length (nodeCoords (chop n s)) ≡ 3 * n = omega (arith, length-nodeCoords n s) in
+    sym (ap (sets l 0) (behind s n h .coords) ∙ sets-append l 0 (nodeCoords (chop n s)) rest ∙ (λ i. sets (sym e i) (k i) rest))
