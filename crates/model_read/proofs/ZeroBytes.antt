@@ -35,6 +35,10 @@ pub zeros-number : (l : List ℕ) → zeros l ≡ eqb (number l) 0
 zeros-number [] = refl
 zeros-number (b ∷ l) = ap (λ (t : Bool). eqb b 0 && t) (zeros-number l) ∙ first-byte b (number l) 0 (omega arith)
 
+-- a number read from them, tested
+pub zero-read : (l : List ℕ) (v : ℕ) → v ≡ number l → eqb v 0 ≡ zeros l
+zero-read l v e = ap (λ (k : ℕ). eqb k 0) e ∙ sym (zeros-number l)
+
 -- two runs
 zeros-append : (a b : List ℕ) → zeros (a ++ b) ≡ (zeros a && zeros b)
 zeros-append [] b = refl

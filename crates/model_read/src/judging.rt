@@ -1,7 +1,7 @@
 // The judging pass: records one by one, nothing stored.
 ghost use mathlib.Core.Path.{_≡_};
 ghost use mathlib.Core.Bool.{cond};
-ghost use Prim.Native.Nat.{_%_, _≤_, _<_, _^_};
+ghost use Prim.Native.Nat.{_+_, _%_, _≤_, _<_, _^_};
 ghost use lib.ListN.{length};
 ghost use lib.Seq.{slice};
 ghost use Rattle.laws.specs.Bytes.{zeros};
@@ -31,26 +31,60 @@ pub fn letter_of(b: u8) -> Letter
     Letter::Other
 }
 
-// Whether the bytes from a to e are zero.
-fn all_zero(s: &[u8], a: usize, e: usize) -> bool
-    requires { ⌜ (a ≤ e) × (e ≤ length (now s)) ⌝ }
-    ensures { λ r. ⌜ r ≡ zeros (slice a e (now (s .entry))) ⌝ }
-{
-    let mut i = a;
-    while i < e {
-        if s[i] != 0 {
-            return false;
-        }
-        i += 1;
-    }
-    true
-}
-
 // A byte as a count.
 pub fn size(b: u8) -> usize
     ensures { λ r. ⌜ (r ≡ b) × (r < 256) ⌝ }
 {
     b as usize
+}
+
+// Whether eight bytes are zero.
+fn zero_eight(r: &[u8], at: usize) -> bool
+    requires { ⌜ at + 8 ≤ length (now r) ⌝ }
+    ensures { λ b. ⌜ b ≡ zeros (slice at (at + 8) (now (r .entry))) ⌝ }
+{
+    floats::le_u64(r, at) == 0
+}
+
+// Whether four bytes are zero.
+fn zero_four(r: &[u8], at: usize) -> bool
+    requires { ⌜ at + 4 ≤ length (now r) ⌝ }
+    ensures { λ b. ⌜ b ≡ zeros (slice at (at + 4) (now (r .entry))) ⌝ }
+{
+    floats::le_four(r, at) == 0
+}
+
+// Whether two bytes are zero.
+fn zero_two(r: &[u8], at: usize) -> bool
+    requires { ⌜ at + 2 ≤ length (now r) ⌝ }
+    ensures { λ b. ⌜ b ≡ zeros (slice at (at + 2) (now (r .entry))) ⌝ }
+{
+    floats::le_two(r, at) == 0
+}
+
+// Whether sixteen bytes are zero.
+fn zero_sixteen(r: &[u8], at: usize) -> bool
+    requires { ⌜ at + 16 ≤ length (now r) ⌝ }
+    ensures { λ b. ⌜ b ≡ zeros (slice at (at + 16) (now (r .entry))) ⌝ }
+{
+    zero_eight(r, at) & zero_eight(r, at + 8)
+}
+
+// Whether the words of a record from a byte on are zero: those at the front, and those at the end, which may lie over them.
+fn rest_zero(r: &[u8], from: usize) -> bool
+    requires { ⌜ (length (now r) ≡ 32) × (from % 2 ≡ 0) × (from ≤ 30) ⌝ }
+    ensures { λ b. ⌜ b ≡ zeros (slice from 32 (now (r .entry))) ⌝ }
+{
+    if from <= 16 {
+        return zero_sixteen(r, from) & zero_sixteen(r, 16);
+    }
+    if from <= 24 {
+        return zero_eight(r, from) & zero_eight(r, 24);
+    }
+    if from <= 28 {
+        return zero_four(r, from) & zero_four(r, 28);
+    }
+    zero_two(r, from)
 }
 
 // A count from `least` on, byte 3 and the unused words zero.
@@ -68,7 +102,10 @@ fn words_right(r: &[u8], least: u8) -> bool
     if r[3] != 0 {
         return false;
     }
-    all_zero(r, 4 + 2 * size(n), 32)
+    if n == 14 {
+        return true;
+    }
+    rest_zero(r, 4 + 2 * size(n))
 }
 
 // A count or zero byte is wrong.
@@ -77,7 +114,7 @@ fn record_off(l: Letter, r: &[u8]) -> bool
     ensures { λ b. ⌜ b ≡ recordOff l (now (r .entry)) ⌝ }
 {
     match l {
-        Letter::Node => !all_zero(r, 1, 8),
+        Letter::Node => !(zero_four(r, 1) & zero_four(r, 4)),
         Letter::Cell => !words_right(r, 0),
         Letter::More => {
             if r[1] != 0 {
@@ -86,10 +123,10 @@ fn record_off(l: Letter, r: &[u8]) -> bool
             !words_right(r, 1)
         }
         Letter::Last => {
-            if !all_zero(r, 4, 8) {
+            if !zero_four(r, 4) {
                 return true;
             }
-            !all_zero(r, 16, 32)
+            !zero_sixteen(r, 16)
         }
         Letter::Other => false,
     }

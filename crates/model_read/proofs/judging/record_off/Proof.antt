@@ -1,17 +1,22 @@
-use mathlib.Core.Path.{sym, ap, _∙_}
-use mathlib.Core.Bool.{not}
+use mathlib.Core.Path.{sym, ap, ap₂, _∙_}
+use mathlib.Core.Bool.{not, _&&_}
+use native.Mathlib.Omega.{arith}
 use borrow.Author.Tests.{eq-eqb, ne-eqb, not-true, not-false}
 use borrow.Author.Needs.{needs}
 use Rattle.model_file.specs.declared.Letter.{Letter}
 use Rattle.model_file.specs.Records.{recordOff}
+use Rattle.model_read.proofs.ZeroBytes.{zeros-cover}
 use Rattle.model_read.proofs.judging.record_off.Statement.{statement}
 use Rattle.model_read.proofs.judging.record_off.Tie as tie
 
 enum-told : tie.Need-enum-told
 enum-told c = search needs
 
-all-zero-requires : tie.Need-all-zero-requires
-all-zero-requires c κs = search needs
+zero-four-requires : tie.Need-zero-four-requires
+zero-four-requires c κs = search needs
+
+zero-four-requires-2 : tie.Need-zero-four-requires-2
+zero-four-requires-2 c κs = search needs
 
 enum-told-2 : tie.Need-enum-told-2
 enum-told-2 c = search needs
@@ -36,22 +41,26 @@ words-right-requires-2 c κs = search needs
 enum-told-4 : tie.Need-enum-told-4
 enum-told-4 c = search needs
 
-all-zero-requires-2 : tie.Need-all-zero-requires-2
-all-zero-requires-2 c κs = search needs
+zero-four-requires-3 : tie.Need-zero-four-requires-3
+zero-four-requires-3 c κs = search needs
 
 returns-2 : tie.Need-returns-2
 returns-2 c =
     let b = c .before .before in
-    sym (ap (λ (l : Letter). recordOff l (b .before .before .before .args .r .now)) (b .enum-told4 .given .1) ∙ rw (← c .before .all-zero2 .ensures, not-true (c .before .all-zero2 .result) (c .if2 .taken)))
+    sym (ap (λ (l : Letter). recordOff l (b .before .before .before .args .r .now)) (b .enum-told4 .given .1) ∙ rw (← c .before .zero-four3 .ensures, not-true (c .before .zero-four3 .result) (c .if2 .taken)))
 
-all-zero-requires-3 : tie.Need-all-zero-requires-3
-all-zero-requires-3 c κs = search needs
+zero-sixteen-requires : tie.Need-zero-sixteen-requires
+zero-sixteen-requires c κs = search needs
 
 enum-told-5 : tie.Need-enum-told-5
 enum-told-5 c = search needs
 
 returns-3 : tie.Need-returns-3
-returns-3 c = ap not (c .all-zero .ensures) ∙ sym (ap (λ (l : Letter). recordOff l (c .before .before .before .before .args .r .now)) (c .before .enum-told .given .1))
+returns-3 c =
+    let b = c .before .before in
+    let r = b .before .before .before .args .r .now in
+    ap not (ap₂ _&&_ (c .before .zero-four .ensures) (c .zero-four2 .ensures) ∙ sym (zeros-cover 1 5 4 8 r (omega arith) (omega arith) (omega arith)))
+    ∙ sym (ap (λ (l : Letter). recordOff l r) (b .enum-told .given .1))
 
 returns-4 : tie.Need-returns-4
 returns-4 c = ap not (c .words-right .ensures) ∙ sym (ap (λ (l : Letter). recordOff l (c .before .before .before .before .args .r .now)) (c .before .enum-told2 .given .1))
@@ -64,7 +73,7 @@ returns-5 c =
 returns-6 : tie.Need-returns-6
 returns-6 c =
     let b = c .before .before .before in
-    sym (ap (λ (l : Letter). recordOff l (b .before .before .before .args .r .now)) (b .enum-told4 .given .1) ∙ rw (← c .before .before .all-zero2 .ensures, not-false (c .before .before .all-zero2 .result) (c .before .if2 .left)) (sym (ap not (c .all-zero3 .ensures))))
+    sym (ap (λ (l : Letter). recordOff l (b .before .before .before .args .r .now)) (b .enum-told4 .given .1) ∙ rw (← c .before .before .zero-four3 .ensures, not-false (c .before .before .zero-four3 .result) (c .before .if2 .left)) (sym (ap not (c .zero-sixteen .ensures))))
 
 returns-7 : tie.Need-returns-7
 returns-7 c = sym (ap (λ (l : Letter). recordOff l (c .before .before .before .args .r .now)) (c .enum-told5 .given .1))
@@ -74,7 +83,8 @@ record-off-spec =
     tie.close
     (tie.spec
     enum-told
-    all-zero-requires
+    zero-four-requires
+    zero-four-requires-2
     enum-told-2
     words-right-requires
     enum-told-3
@@ -82,9 +92,9 @@ record-off-spec =
     returns
     words-right-requires-2
     enum-told-4
-    all-zero-requires-2
+    zero-four-requires-3
     returns-2
-    all-zero-requires-3
+    zero-sixteen-requires
     enum-told-5
     returns-3
     returns-4

@@ -1,6 +1,10 @@
-use mathlib.Core.Path.{sym}
+use Prim.Native.Nat.{_+_, _*_}
+use mathlib.Core.Path.{_≡_, sym}
+use native.Mathlib.Omega.{arith}
 use borrow.Author.Tests.{eq-eqb, ne-eqb, le-leb, lt-leb}
 use borrow.Author.Needs.{needs}
+use Rattle.model_file.specs.Records.{count}
+use Rattle.model_file.proofs.Numbers.{zeros-end}
 use Rattle.model_read.proofs.judging.words_right.Statement.{statement}
 use Rattle.model_read.proofs.judging.words_right.Tie as tie
 
@@ -19,22 +23,29 @@ shared-slice-read-if3 c = search needs
 returns-3 : tie.Need-returns-3
 returns-3 c = sym (simp (le-leb _ _ (c .before .before .before .if1 .left), le-leb _ _ (c .before .before .if2 .left), ne-eqb _ _ (c .if3 .taken)))
 
+returns-4 : tie.Need-returns-4
+returns-4 c =
+    let b = c .before .before .before in
+    let r = b .before .before .before .before .args .r .now in
+    let n : count r ≡ 14 = c .if4 .taken in
+    sym (simp (le-leb _ _ (b .before .if1 .left), le-leb _ _ (b .if2 .left), eq-eqb _ _ (c .before .if3 .left), zeros-end (4 + 2 * count r) 32 r (omega arith) (omega arith)))
+
 size-requires : tie.Need-size-requires
 size-requires c κs = search needs
 
-mul-all-zero : tie.Need-mul-all-zero
-mul-all-zero c = search needs
+mul-rest-zero : tie.Need-mul-rest-zero
+mul-rest-zero c = search needs
 
-add-all-zero : tie.Need-add-all-zero
-add-all-zero c = search needs
+add-rest-zero : tie.Need-add-rest-zero
+add-rest-zero c = search needs
 
-all-zero-requires : tie.Need-all-zero-requires
-all-zero-requires c κs = search needs
+rest-zero-requires : tie.Need-rest-zero-requires
+rest-zero-requires c κs = search needs
 
-returns-4 : tie.Need-returns-4
-returns-4 c =
-    let b = c .before .before .before .before in
-    sym (simp (le-leb _ _ (b .before .if1 .left), le-leb _ _ (b .if2 .left), eq-eqb _ _ (c .before .before .if3 .left), ← c .before .size .ensures .0) (sym (c .all-zero .ensures)))
+returns-5 : tie.Need-returns-5
+returns-5 c =
+    let b = c .before .before .before .before .before in
+    sym (simp (le-leb _ _ (b .before .if1 .left), le-leb _ _ (b .if2 .left), eq-eqb _ _ (c .before .before .before .if3 .left), ← c .before .size .ensures .0) (sym (c .rest-zero .ensures)))
 
 pub words-right-spec : {M : Type 1} → statement M
 words-right-spec =
@@ -45,8 +56,9 @@ words-right-spec =
     returns-2
     shared-slice-read-if3
     returns-3
+    returns-4
     size-requires
-    mul-all-zero
-    add-all-zero
-    all-zero-requires
-    returns-4)
+    mul-rest-zero
+    add-rest-zero
+    rest-zero-requires
+    returns-5)
