@@ -4,12 +4,12 @@ use mathlib.Core.Path.{_≡_}
 use mathlib.Core.Bool.{Bool, false, cond, _&&_, _||_}
 use mathlib.Core.List.{List, [], _∷_}
 use lib.Dec.{eqb, ltb}
-use lib.ListN.{length, getD}
+use lib.ListN.{length, getD, drop}
 use lib.Seq.{slice, sets}
 use lib.Ieee.{Float}
 use Rattle.laws.specs.Bytes.{zeros}
 use Rattle.laws.specs.Lists.{each}
-use Rattle.model_file.specs.Records.{letter, byte1, floatAt, capIn, coordsIn, kindsIn, wordsIn, endsIn}
+use Rattle.model_file.specs.Records.{letter, byte1, floatAt, capIn, wordsAt, coordsIn, kindsIn, wordsIn, endsIn}
 use Rattle.model_file.specs.File.{records, coordsOf, kindsOf, wordsOf, endsOf}
 use Rattle.model_file.specs.Steps.{judge}
 use Rattle.model_file.specs.declared.Letter.{Letter}
@@ -50,6 +50,17 @@ pub record Judged (s : List ℕ) (t : Tally) : Type 0 where
 -- lists of these lengths, one of them too short
 abbrev pub short : Place → ℕ → ℕ → ℕ → ℕ → Bool
 short p coords kinds ends words = ltb coords (p .coords) || ltb kinds (p .cells) || ltb ends (p .cells) || ltb words (p .words)
+
+-- words j to k of a C or K
+abbrev pub wordsBetween : ℕ → ℕ → List ℕ → List ℕ
+wordsBetween j k r = wordsAt (k - j) (drop (4 + 2 * j) r)
+
+-- words j to k of n are stored behind a place, and fewer than `most` are left
+pub record Stored (r : List ℕ) (at n j k most : ℕ) (words words' : List ℕ) : Type 0 where
+  pub up : j ≤ k
+  pub inside : k ≤ n
+  pub few : n < k + most
+  pub wordsAre : words' ≡ sets words (at + j) (wordsBetween j k r)
 
 -- room for what a record adds, in lists of these lengths
 pub record Room (r : List ℕ) (p : Place) (coords kinds ends words : ℕ) : Type 0 where

@@ -7,7 +7,7 @@ ghost use lib.Seq.{sets};
 ghost use Rattle.laws.specs.Bytes.{number};
 ghost use Rattle.model_file.specs.File.{chop};
 ghost use Rattle.model_file.specs.Records.{widen, wordsAt, count, coordsIn, kindsIn, wordsIn, endsIn};
-ghost use Rattle.model_read.specs.Steps.{Nodes, nodeCoords, Room, Put, Fitting, Filled};
+ghost use Rattle.model_read.specs.Steps.{Nodes, nodeCoords, wordsBetween, Stored, Room, Put, Fitting, Filled};
 use crate::Place;
 use crate::judging::letter_of;
 use crate::judging::place_after;
@@ -94,17 +94,108 @@ fn fill_ends(l: Letter, ends: &mut [u32], cells: usize, words: usize)
     }
 }
 
+// Four words of a C or K, from the j-th on.
+fn put_four(r: &[u8], words: &mut [u32], at: usize, j: usize)
+    requires { ⌜ (length (now r) ≡ 32) × (j + 4 ≤ 14) × (at + j + 4 ≤ length (now words)) ⌝ }
+    ensures { λ _. ⌜ now (words .exit) ≡ sets (now (words .entry)) (at + j) (wordsBetween j (j + 4) (now (r .entry))) ⌝ }
+{
+    let from = 4 + 2 * j;
+    let a = word_at(r, from);
+    let b = word_at(r, from + 2);
+    let c = word_at(r, from + 4);
+    let d = word_at(r, from + 6);
+    let k = at + j;
+    words[k] = a;
+    words[k + 1] = b;
+    words[k + 2] = c;
+    words[k + 3] = d;
+}
+
+// Two words, from the j-th on.
+fn put_two(r: &[u8], words: &mut [u32], at: usize, j: usize)
+    requires { ⌜ (length (now r) ≡ 32) × (j + 2 ≤ 14) × (at + j + 2 ≤ length (now words)) ⌝ }
+    ensures { λ _. ⌜ now (words .exit) ≡ sets (now (words .entry)) (at + j) (wordsBetween j (j + 2) (now (r .entry))) ⌝ }
+{
+    let from = 4 + 2 * j;
+    let a = word_at(r, from);
+    let b = word_at(r, from + 2);
+    let k = at + j;
+    words[k] = a;
+    words[k + 1] = b;
+}
+
+// All fourteen words.
+fn put_full(r: &[u8], words: &mut [u32], at: usize)
+    requires { ⌜ (length (now r) ≡ 32) × (at + 14 ≤ length (now words)) ⌝ }
+    ensures { λ _. ⌜ now (words .exit) ≡ sets (now (words .entry)) at (wordsAt 14 (drop 4 (now (r .entry)))) ⌝ }
+{
+    put_four(r, words, at, 0);
+    put_four(r, words, at, 4);
+    put_four(r, words, at, 8);
+    put_two(r, words, at, 12);
+}
+
+// The first eight of n words, where there are as many; how many are stored.
+fn put_eight(r: &[u8], words: &mut [u32], at: usize, n: usize) -> usize
+    requires { ⌜ (length (now r) ≡ 32) × (n ≤ 14) × (at + n ≤ length (now words)) ⌝ }
+    ensures { λ k. ⌜ Stored (now (r .entry)) at n 0 k 8 (now (words .entry)) (now (words .exit)) ⌝ }
+{
+    if n < 8 {
+        return 0;
+    }
+    put_four(r, words, at, 0);
+    put_four(r, words, at, 4);
+    8
+}
+
+// Four more behind j, where there are as many.
+fn put_next_four(r: &[u8], words: &mut [u32], at: usize, n: usize, j: usize) -> usize
+    requires { ⌜ (length (now r) ≡ 32) × (n ≤ 14) × (at + n ≤ length (now words)) × (j ≤ n) × (n < j + 8) ⌝ }
+    ensures { λ k. ⌜ Stored (now (r .entry)) at n j k 4 (now (words .entry)) (now (words .exit)) ⌝ }
+{
+    if n < j + 4 {
+        return j;
+    }
+    put_four(r, words, at, j);
+    j + 4
+}
+
+// Two more.
+fn put_next_two(r: &[u8], words: &mut [u32], at: usize, n: usize, j: usize) -> usize
+    requires { ⌜ (length (now r) ≡ 32) × (n ≤ 14) × (at + n ≤ length (now words)) × (j ≤ n) × (n < j + 4) ⌝ }
+    ensures { λ k. ⌜ Stored (now (r .entry)) at n j k 2 (now (words .entry)) (now (words .exit)) ⌝ }
+{
+    if n < j + 2 {
+        return j;
+    }
+    put_two(r, words, at, j);
+    j + 2
+}
+
+// The last one.
+fn put_last(r: &[u8], words: &mut [u32], at: usize, n: usize, j: usize)
+    requires { ⌜ (length (now r) ≡ 32) × (n ≤ 14) × (at + n ≤ length (now words)) × (j ≤ n) × (n < j + 2) ⌝ }
+    ensures { λ _. ⌜ now (words .exit) ≡ sets (now (words .entry)) (at + j) (wordsBetween j n (now (r .entry))) ⌝ }
+{
+    if j < n {
+        words[at + j] = word_at(r, 4 + 2 * j);
+    }
+}
+
 // The words of a C or K.
 fn put_words(r: &[u8], words: &mut [u32], at: usize)
     requires { ⌜ (length (now r) ≡ 32) × (count (now r) ≤ 14) × (at + count (now r) ≤ length (now words)) ⌝ }
     ensures { λ _. ⌜ now (words .exit) ≡ sets (now (words .entry)) at (wordsAt (count (now (r .entry))) (drop 4 (now (r .entry)))) ⌝ }
 {
     let n = size(r[2]);
-    let mut j = 0;
-    while j < n {
-        words[at + j] = word_at(r, 4 + 2 * j);
-        j += 1;
+    if n == 14 {
+        put_full(r, words, at);
+        return;
     }
+    let i = put_eight(r, words, at, n);
+    let j = put_next_four(r, words, at, n, i);
+    let k = put_next_two(r, words, at, n, j);
+    put_last(r, words, at, n, k);
 }
 
 fn fill_words(l: Letter, r: &[u8], words: &mut [u32], at: usize)

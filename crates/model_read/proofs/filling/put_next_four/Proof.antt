@@ -1,0 +1,29 @@
+use native.Mathlib.Omega.{arith}
+use borrow.Author.Needs.{needs}
+use Rattle.model_read.proofs.WordStores.{words-none}
+use Rattle.model_read.proofs.filling.put_next_four.Statement.{statement}
+use Rattle.model_read.proofs.filling.put_next_four.Tie as tie
+
+add-if1 : tie.Need-add-if1
+add-if1 c = search needs
+
+returns : tie.Need-returns
+returns c =
+    let a = c .before .before .before .args in
+    record { up = omega arith; inside = omega arith; few = omega arith; wordsAre = words-none (a .words .now) (a .at) (a .j) (a .j) (a .r .now) (omega arith) }
+
+put-four-requires : tie.Need-put-four-requires
+put-four-requires c κs = search needs
+
+add-result : tie.Need-add-result
+add-result c = search needs
+
+same-length : tie.Need-same-length
+same-length c = search needs
+
+returns-2 : tie.Need-returns-2
+returns-2 c = search needs
+
+pub put-next-four-spec : {M : Type 1} → statement M
+put-next-four-spec =
+    tie.close (tie.spec add-if1 returns put-four-requires add-result same-length returns-2)
