@@ -35,10 +35,11 @@ node-number (b ∷ r) = ap (λ (t : Bool). eqb b 78 && t) (zeros-number (take 7 
 node-read : (s : List ℕ) (at : ℕ) → rightNode (take 32 (drop at s)) ≡ eqb (number (slice at (at + 8) s)) 78
 node-read s at = node-number (take 32 (drop at s)) ∙ ap (λ (l : List ℕ). eqb (number l) 78) (take-take 8 32 (drop at s) (omega arith) ∙ take-drop at 8 s)
 
--- one node more, no node, and no record
+-- how many lead from a record on, by the number of its first eight bytes
 next-leads : (s : List ℕ) (n : ℕ) → 32 * n + 32 ≤ length s → leading (records (drop (32 * n) s)) ≡ cond (eqb (number (slice (32 * n) (32 * n + 8) s)) 78) (suc (leading (records (drop (32 * n + 32) s)))) 0
 next-leads s n h = ap leading (records-step s (32 * n) h) ∙ ap (λ (b : Bool). cond b (suc (leading (records (drop (32 * n + 32) s)))) 0) (node-read s (32 * n))
 
+-- it is a node: one more than from the next on
 pub leading-one : (s : List ℕ) (n v : ℕ) → 32 * n + 32 ≤ length s → v ≡ number (slice (32 * n) (32 * n + 8) s) → v ≡ 78 → leading (records (drop (32 * n) s)) ≡ suc (leading (records (drop (32 * (n + 1)) s)))
 leading-one s n v h e k =
     let d : 32 * n + 32 ≡ 32 * (n + 1) = omega arith in
@@ -46,10 +47,12 @@ leading-one s n v h e k =
     ∙ ap (λ (b : Bool). cond b (suc (leading (records (drop (32 * n + 32) s)))) 0) (eq-eqb (number (slice (32 * n) (32 * n + 8) s)) 78 (sym e ∙ k))
     ∙ ap (λ (m : ℕ). suc (leading (records (drop m s)))) d
 
+-- it is none
 pub leading-none : (s : List ℕ) (n v : ℕ) → 32 * n + 32 ≤ length s → v ≡ number (slice (32 * n) (32 * n + 8) s) → (v ≡ 78 → ⊥) → leading (records (drop (32 * n) s)) ≡ 0
 leading-none s n v h e k =
     next-leads s n h ∙ ap (λ (b : Bool). cond b (suc (leading (records (drop (32 * n + 32) s)))) 0) (ne-eqb (number (slice (32 * n) (32 * n + 8) s)) 78 (λ z. k (e ∙ z)))
 
+-- there is no record
 pub leading-end : (s : List ℕ) (n : ℕ) → length s / 32 ≤ n → leading (records (drop (32 * n) s)) ≡ 0
 leading-end s n h =
     let d = length-drop (32 * n) s in
@@ -90,12 +93,13 @@ led (r ∷ rs) = go (rightNode r) refl (led rs)
 
 -- ---- of a file
 
--- the first records, and those behind them
+-- the first of more records
 take-chop : (n k : ℕ) (s : List ℕ) → n ≤ k → take n (chop k s) ≡ chop n s
 take-chop zero k s h = refl
 take-chop (suc n) zero s h = absurd (omega arith)
 take-chop (suc n) (suc k) s h = ap (λ (t : List (List ℕ)). take 32 s ∷ t) (take-chop n k (drop 32 s) (omega arith))
 
+-- those behind the first
 drop-chop : (n k : ℕ) (s : List ℕ) → n ≤ k → drop n (chop k s) ≡ chop (k - n) (drop (32 * n) s)
 drop-chop zero k s h = ap (λ (m : ℕ). chop m s) (sym (sub-zero k))
 drop-chop (suc n) zero s h = absurd (omega arith)

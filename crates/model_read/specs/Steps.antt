@@ -31,7 +31,7 @@ abbrev pub leading : List (List ℕ) → ℕ
 leading [] = 0
 leading (r ∷ rs) = cond (rightNode r) (suc (leading rs)) 0
 
--- so many of a file's
+-- n is how many of a file's records are
 pub record Nodes (s : List ℕ) (n : ℕ) : Type 0 where
   pub counted : n ≡ leading (records s)
   pub inside : 32 * n ≤ length s

@@ -138,7 +138,7 @@ fn put_two(r: &[u8], words: &mut [u32], at: usize, j: usize)
     words[k + 1] = b;
 }
 
-// All fourteen words.
+// All fourteen words of a full record.
 fn put_full(r: &[u8], words: &mut [u32], at: usize)
     requires { ⌜ (length (now r) ≡ 32) × (at + 14 ≤ length (now words)) ⌝ }
     ensures { λ _. ⌜ now (words .exit) ≡ sets (now (words .entry)) at (wordsAt 14 (drop 4 (now (r .entry)))) ⌝ }
@@ -162,7 +162,7 @@ fn put_eight(r: &[u8], words: &mut [u32], at: usize, n: usize) -> usize
     8
 }
 
-// Four more behind j, where there are as many.
+// Four more behind j, where there are as many; how many are stored then.
 fn put_next_four(r: &[u8], words: &mut [u32], at: usize, n: usize, j: usize) -> usize
     requires { ⌜ (length (now r) ≡ 32) × (n ≤ 14) × (at + n ≤ length (now words)) × (j ≤ n) × (n < j + 8) ⌝ }
     ensures { λ k. ⌜ Stored (now (r .entry)) at n j k 4 (now (words .entry)) (now (words .exit)) ⌝ }
@@ -174,7 +174,7 @@ fn put_next_four(r: &[u8], words: &mut [u32], at: usize, n: usize, j: usize) -> 
     j + 4
 }
 
-// Two more.
+// Two more behind j, where there are as many; how many are stored then.
 fn put_next_two(r: &[u8], words: &mut [u32], at: usize, n: usize, j: usize) -> usize
     requires { ⌜ (length (now r) ≡ 32) × (n ≤ 14) × (at + n ≤ length (now words)) × (j ≤ n) × (n < j + 4) ⌝ }
     ensures { λ k. ⌜ Stored (now (r .entry)) at n j k 2 (now (words .entry)) (now (words .exit)) ⌝ }
@@ -186,7 +186,7 @@ fn put_next_two(r: &[u8], words: &mut [u32], at: usize, n: usize, j: usize) -> u
     j + 2
 }
 
-// The last one.
+// The last one behind j, where there is one.
 fn put_last(r: &[u8], words: &mut [u32], at: usize, n: usize, j: usize)
     requires { ⌜ (length (now r) ≡ 32) × (n ≤ 14) × (at + n ≤ length (now words)) × (j ≤ n) × (n < j + 2) ⌝ }
     ensures { λ _. ⌜ now (words .exit) ≡ sets (now (words .entry)) (at + j) (wordsBetween j n (now (r .entry))) ⌝ }
@@ -245,7 +245,7 @@ fn fill_record(
     place_after(l, r, p)
 }
 
-// The coordinates of the first n records, all of them N.
+// The coordinates of the first n records, taken as N.
 fn fill_nodes(bytes: &[u8], coords: &mut [f64], n: usize)
     requires { ⌜ (32 * n ≤ length (now bytes)) × (3 * n ≤ length (now coords)) ⌝ }
     ensures { λ _. ⌜ now (coords .exit) ≡ sets (now (coords .entry)) 0 (nodeCoords (chop n (now (bytes .entry)))) ⌝ }

@@ -70,7 +70,7 @@ fn zero_sixteen(r: &[u8], at: usize) -> bool
     zero_eight(r, at) & zero_eight(r, at + 8)
 }
 
-// Whether the words of a record from a byte on are zero: those at the front, and those at the end, which may lie over them.
+// Whether a record's bytes from an even place on are zero: the first and the last of them, which may overlap.
 fn rest_zero(r: &[u8], from: usize) -> bool
     requires { ⌜ (length (now r) ≡ 32) × (from % 2 ≡ 0) × (from ≤ 30) ⌝ }
     ensures { λ b. ⌜ b ≡ zeros (slice from 32 (now (r .entry))) ⌝ }
