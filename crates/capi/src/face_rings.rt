@@ -47,7 +47,7 @@ pub extern "C" fn lenoshale_face_owners(
     ensures { λ r. ⌜ OwnersExport (modelOf (now (coords .entry)) (now (kinds .entry)) (now (ends .entry)) (now (words .entry)) tol flags 0) face (now (owners .entry)) (now (owners .exit)) (now (count .entry)) (now (count .exit)) r ⌝ }
 {
     let checks = mesh::Checks(flags);
-    let a = faces::face_owners(coords, kinds, ends, words, tol, checks, face, owners);
+    let a = owners::face_owners(coords, kinds, ends, words, tol, checks, face, owners);
     match a {
         Counted::Refused(n) => n as u32,
         Counted::Count(n) => {

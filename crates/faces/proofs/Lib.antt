@@ -1,4 +1,4 @@
--- Laws of where a face's ring lies, and of its owners.
+-- Laws of where a face's ring lies, and of numbers noted in a list.
 pub mod Seeking
 pub mod Spanning
 pub mod Polyhedra
@@ -6,9 +6,5 @@ pub mod Walking
 pub mod Finding
 pub mod Rings
 pub mod Lookups
-pub mod Keys
 pub mod Bounds
-pub mod Loading
 pub mod Noting
-pub mod Passing
-pub mod Owning

@@ -1,15 +1,12 @@
 -- Cells noted in a list one after the other: what is noted and what is left is all.
-use Prim.Native.Nat.{ℕ, _+_, _≤_}
+use Prim.Native.Nat.{ℕ, _+_}
 use mathlib.Core.Path.{_≡_, refl, sym, ap, ap₂, _∙_, subst}
 use mathlib.Core.List.{List, [], _++_}
 use native.Mathlib.Omega.{arith}
-use mathlib.Core.Bool.{true, false}
-use lib.Dec.{leb}
-use lib.ListN.{length, set, length-append}
-use Rattle.laws.specs.Lists.{sort, eql}
-use lib.Seq.{sets, set-out, length-sets}
+use lib.ListN.{length, length-append}
+use lib.Seq.{sets, length-sets}
 use Rattle.laws.proofs.Stores.{sets-append}
-use Rattle.faces.specs.Holding.{holder, Noted}
+use Rattle.faces.specs.Listing.{Noted}
 
 -- xs noted from place k on gives what all of them noted at the start gives
 pub record Noting (out₀ : List ℕ) (k₀ : ℕ) (xs₀ out : List ℕ) (k : ℕ) (xs : List ℕ) : Type 0 where
@@ -33,18 +30,6 @@ noting-next out₀ k₀ xs₀ out k xs ys out' k' p n =
 -- all are noted
 pub noting-end : (out₀ : List ℕ) (k₀ : ℕ) (xs₀ out : List ℕ) (k : ℕ) → Noting out₀ k₀ xs₀ out k [] → Noted out₀ out k₀ k xs₀
 noting-end out₀ k₀ xs₀ out k p = record { count = omega (arith, p .count); put = p .put }
-
--- a ring has the key and there is room
-pub holder-noted : (key : List ℕ) (cell : ℕ) (ring out : List ℕ) (k : ℕ) → eql key (sort leb ring) ≡ true → Noted out (set out k cell) k (k + 1) (holder key cell ring)
-holder-noted key cell ring out k e = rw e (record { count = refl; put = refl })
-
--- there is none
-pub holder-over : (key : List ℕ) (cell : ℕ) (ring out : List ℕ) (k : ℕ) → eql key (sort leb ring) ≡ true → length out ≤ k → Noted out out k (k + 1) (holder key cell ring)
-holder-over key cell ring out k e h = rw e (record { count = refl; put = sym (set-out out k cell h) })
-
--- a ring has not the key
-pub holder-none : (key : List ℕ) (cell : ℕ) (ring out : List ℕ) (k : ℕ) → eql key (sort leb ring) ≡ false → Noted out out k k (holder key cell ring)
-holder-none key cell ring out k e = rw e (record { count = omega arith; put = refl })
 
 -- the cells noted under an equation
 pub noted-as : {before after : List ℕ} {k r : ℕ} {xs ys : List ℕ} → xs ≡ ys → Noted before after k r xs → Noted before after k r ys

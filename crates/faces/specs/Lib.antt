@@ -1,3 +1,3 @@
--- Internal contracts on where a face's ring lies, and on its owners.
+-- Internal contracts on where a face's ring lies, and on lists of numbers.
 pub mod Spans
-pub mod Holding
+pub mod Listing

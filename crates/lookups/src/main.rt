@@ -126,7 +126,7 @@ fn looks() {
 fn own(name: &[u8], face: usize, lent: &mut [u32]) {
     let c = corners();
     let words = [0u32, 1, 2, 3, 0, 1, 2, 4294967295, 2, 1, 0];
-    let r = faces::face_owners(
+    let r = owners::face_owners(
         &c,
         &[1u8, 4],
         &[4u32, 11],

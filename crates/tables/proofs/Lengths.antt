@@ -17,7 +17,7 @@ use Rattle.mesh.specs.Rings.{separator, onto, runs, phedRings, ringsOf}
 use Rattle.mesh.specs.Steps.{lead, ringTotal, cellWith, WellCell, WellCells}
 use Rattle.mesh.proofs.ByKind.{phed-is}
 use Rattle.mesh.proofs.CellTallies.{total-append}
-use Rattle.faces.specs.Holding.{Noted}
+use Rattle.faces.specs.Listing.{Noted}
 use Rattle.faces.proofs.Noting.{Noting, noting-start, noting-next, noting-end}
 use Rattle.faces.proofs.Polyhedra.{runs-next}
 use Rattle.faces.proofs.Bounds.{fixed-total}

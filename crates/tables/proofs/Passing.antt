@@ -13,7 +13,7 @@ use Rattle.mesh.specs.Rings.{ringsOf}
 use Rattle.mesh.specs.Steps.{WellCell}
 use Rattle.mesh.proofs.CellTallies.{left}
 use Rattle.faces.specs.Spans.{Sound, ringsIn}
-use Rattle.faces.specs.Holding.{Noted}
+use Rattle.faces.specs.Listing.{Noted}
 use Rattle.faces.proofs.Noting.{Noting, noting-start, noting-next, noting-end}
 use Rattle.faces.proofs.Walking.{Walked, walked-start, walked-next, walked-end, next-cell, next-left, next-well, next-asks}
 use Rattle.faces.proofs.Bounds.{cells-few}

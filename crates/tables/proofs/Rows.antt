@@ -10,7 +10,7 @@ use Rattle.laws.specs.Merging.{region, startsOf}
 use Rattle.laws.proofs.Stores.{getD-before, region-same, sets-over}
 use Rattle.mesh.specs.Steps.{ringTotal}
 use Rattle.faces.specs.Spans.{Sound, ringsIn}
-use Rattle.faces.specs.Holding.{Noted}
+use Rattle.faces.specs.Listing.{Noted}
 use Rattle.counting.specs.Counts.{sums}
 use Rattle.counting.proofs.CountLaws.{length-sums}
 use Rattle.tables.proofs.Lengths.{cells-small}

@@ -11,7 +11,7 @@ ghost use Rattle.mesh.specs.Model.{cellsFrom};
 ghost use Rattle.mesh.specs.Rings.{phedRings, ringsOf};
 ghost use Rattle.mesh.specs.Steps.{cellWith, WellCell};
 ghost use Rattle.faces.specs.Spans.{Sound, ringsIn};
-ghost use Rattle.faces.specs.Holding.{Noted};
+ghost use Rattle.faces.specs.Listing.{Noted};
 ghost use Rattle.tables.specs.Owners.{ownersFrom};
 
 // The length of a run, if it has three words; answers the place behind it.

@@ -1,13 +1,13 @@
 use native.Mathlib.Omega.{arith}
 use borrow.Author.Needs.{needs}
-use Rattle.faces.proofs.same_ring.Statement.{statement}
-use Rattle.faces.proofs.same_ring.Tie as tie
-use Rattle.faces.proofs.same_ring.Reads as reads
-use Rattle.faces.proofs.same_ring.Lts as lts
-use Rattle.faces.proofs.same_words.Reads as same-words-reads
+use Rattle.owners.proofs.same_ring.Statement.{statement}
+use Rattle.owners.proofs.same_ring.Tie as tie
+use Rattle.owners.proofs.same_ring.Reads as reads
+use Rattle.owners.proofs.same_ring.Lts as lts
+use Rattle.owners.proofs.same_words.Reads as same-words-reads
 use Rattle.rings.proofs.put_words.Reads as put-words-reads
 use Rattle.sorting.proofs.sort_words.Reads as sort-words-reads
-use Rattle.faces.proofs.Keys.{eql-length, sorted-front, part-front}
+use Rattle.owners.proofs.Keys.{eql-length, sorted-front, part-front}
 use Rattle.laws.proofs.Sorting.{length-sort}
 use Rattle.laws.specs.Lists.{sort, eql}
 use lib.ListN.{length}

@@ -1,10 +1,10 @@
 use native.Mathlib.Omega.{arith}
 use borrow.Author.Needs.{needs}
-use Rattle.faces.proofs.same_words.Statement.{statement}
-use Rattle.faces.proofs.same_words.Tie as tie
-use Rattle.faces.proofs.same_words.Reads as reads
-use Rattle.faces.proofs.same_words.Lts as lts
-use Rattle.faces.proofs.Keys.{eql-length, eql-unlike, eql-like, eql-over}
+use Rattle.owners.proofs.same_words.Statement.{statement}
+use Rattle.owners.proofs.same_words.Tie as tie
+use Rattle.owners.proofs.same_words.Reads as reads
+use Rattle.owners.proofs.same_words.Lts as lts
+use Rattle.owners.proofs.Keys.{eql-length, eql-unlike, eql-like, eql-over}
 use Rattle.laws.specs.Lists.{eql}
 use lib.ListN.{length, drop}
 use mathlib.Core.Path.{_≡_, refl, sym, _∙_}

@@ -1,13 +1,13 @@
 use native.Mathlib.Omega.{arith}
 use borrow.Author.Needs.{needs}
-use Rattle.faces.proofs.note_cells.Statement.{statement}
-use Rattle.faces.proofs.note_cells.Tie as tie
-use Rattle.faces.proofs.note_cells.Reads as reads
-use Rattle.faces.proofs.note_cells.Lts as lts
+use Rattle.owners.proofs.note_cells.Statement.{statement}
+use Rattle.owners.proofs.note_cells.Tie as tie
+use Rattle.owners.proofs.note_cells.Reads as reads
+use Rattle.owners.proofs.note_cells.Lts as lts
 use Rattle.mesh.proofs.wide.Reads as wide-reads
-use Rattle.faces.proofs.note_cell.Reads as note-cell-reads
-use Rattle.faces.proofs.Passing.{Passing, passing-start, count-fits, passing-asks, passing-next, passing-end}
+use Rattle.owners.proofs.note_cell.Reads as note-cell-reads
+use Rattle.owners.proofs.Passing.{Passing, passing-start, count-fits, passing-asks, passing-next, passing-end}
 use Rattle.faces.proofs.Walking.{next-end}
 use lib.ListN.{length}
 use Prim.Native.Nat.{_-_}
 

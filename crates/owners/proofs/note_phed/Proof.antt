@@ -1,12 +1,12 @@
 use native.Mathlib.Omega.{arith}
 use borrow.Author.Needs.{needs}
-use Rattle.faces.proofs.note_phed.Statement.{statement}
-use Rattle.faces.proofs.note_phed.Tie as tie
-use Rattle.faces.proofs.note_phed.Reads as reads
-use Rattle.faces.proofs.note_phed.Lts as lts
+use Rattle.owners.proofs.note_phed.Statement.{statement}
+use Rattle.owners.proofs.note_phed.Tie as tie
+use Rattle.owners.proofs.note_phed.Reads as reads
+use Rattle.owners.proofs.note_phed.Lts as lts
 use Rattle.mesh.proofs.run_end.Reads as run-end-reads
-use Rattle.faces.proofs.note.Reads as note-reads
-use Rattle.faces.proofs.Passing.{Runs, runs-start, runs-fit, runs-short, runs-noted, runs-end}
+use Rattle.owners.proofs.note.Reads as note-reads
+use Rattle.owners.proofs.Passing.{Runs, runs-start, runs-fit, runs-short, runs-noted, runs-end}
 use lib.ListN.{length}
 use mathlib.Core.Path.{refl}
 use Prim.Native.Nat.{_-_}

@@ -19,9 +19,10 @@ use Rattle.mesh.specs.Acceptance.{modelRefusal, facesIn}
 use Rattle.mesh.specs.Lookup.{faceOff, ownersOf, ownersTable, ownersAnswer, ownersAfter}
 use Rattle.mesh.specs.Steps.{ModelCounted}
 use Rattle.mesh.specs.declared.CellTally.{CellTally}
 use Rattle.faces.proofs.Rings.{ringsAll, faces-are, ring-at}
 use Rattle.faces.proofs.Lookups.{behind-refused, behind-accepted}
-use Rattle.faces.specs.Holding.{holders, held, Noted}
+use Rattle.faces.specs.Listing.{Noted}
+use Rattle.owners.specs.Holding.{holders, held}
 
 -- ---- the owners
 

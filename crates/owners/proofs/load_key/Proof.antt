@@ -1,19 +1,19 @@
 use native.Mathlib.Omega.{arith}
 use borrow.Author.Needs.{needs}
-use Rattle.faces.proofs.load_key.Statement.{statement}
-use Rattle.faces.proofs.load_key.Tie as tie
-use Rattle.faces.proofs.load_key.Reads as reads
-use Rattle.faces.proofs.load_key.Lts as lts
+use Rattle.owners.proofs.load_key.Statement.{statement}
+use Rattle.owners.proofs.load_key.Tie as tie
+use Rattle.owners.proofs.load_key.Reads as reads
+use Rattle.owners.proofs.load_key.Lts as lts
 use Rattle.faces.proofs.find_cell.Reads as find-cell-reads
-use Rattle.faces.proofs.load_ring.Reads as load-ring-reads
+use Rattle.owners.proofs.load_ring.Reads as load-ring-reads
 use Rattle.sorting.proofs.sort_words.Reads as sort-words-reads
-use Rattle.faces.proofs.Keys.{sorted-front}
+use Rattle.owners.proofs.Keys.{sorted-front}
 use Rattle.faces.proofs.Bounds.{ring-short}
 use Rattle.faces.proofs.Finding.{found-asks}
 use Rattle.laws.specs.Lists.{sort}
 use lib.Dec.{leb}
 use mathlib.Core.Path.{ap, _∙_}
 use Rattle.faces.specs.Spans.{cellAt}
 use Rattle.mesh.specs.Rings.{ringsOf}
 use lib.ListN.{getD}
 use mathlib.Core.List.{[]}

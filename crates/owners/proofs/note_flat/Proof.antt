@@ -1,16 +1,16 @@
 use native.Mathlib.Omega.{arith}
 use borrow.Author.Needs.{needs}
-use Rattle.faces.proofs.note_flat.Statement.{statement}
-use Rattle.faces.proofs.note_flat.Tie as tie
-use Rattle.faces.proofs.note_flat.Reads as reads
-use Rattle.faces.proofs.note_flat.Lts as lts
+use Rattle.owners.proofs.note_flat.Statement.{statement}
+use Rattle.owners.proofs.note_flat.Tie as tie
+use Rattle.owners.proofs.note_flat.Reads as reads
+use Rattle.owners.proofs.note_flat.Lts as lts
 use Rattle.faces.proofs.cell_span.Reads as cell-span-reads
 use Rattle.mesh.proofs.tally_kind.Reads as tally-kind-reads
-use Rattle.faces.proofs.note.Reads as note-reads
-use Rattle.faces.proofs.Passing.{holders-few, rings-noted, rings-end}
-use Rattle.faces.proofs.Loading.{flat-end, flat-is}
+use Rattle.owners.proofs.note.Reads as note-reads
+use Rattle.owners.proofs.Passing.{holders-few, rings-noted, rings-end}
+use Rattle.owners.proofs.Loading.{flat-end, flat-is}
 use Rattle.faces.proofs.Noting.{Noting, noting-start, noted-as}
-use Rattle.faces.specs.Holding.{holder, holders}
+use Rattle.owners.specs.Holding.{holder, holders}
 use Rattle.mesh.specs.Steps.{cellWith}
 use Rattle.mesh.specs.Rings.{ringsOf}
 use Prim.Native.Nat.{ℕ, _+_, _-_, _≤_, _<_}

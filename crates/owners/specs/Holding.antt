@@ -1,10 +1,7 @@
--- For internal contracts: the cells that hold a sorted ring, and what a lent list holds once they are noted.
-use Prim.Native.Nat.{ℕ, suc, _+_}
+-- For internal contracts: the cells that hold a sorted ring.
+use Prim.Native.Nat.{ℕ, suc}
 use mathlib.Core.List.{List, [], _∷_, _++_}
-use mathlib.Core.Path.{_≡_}
 use lib.Dec.{leb}
-use lib.ListN.{length}
-use lib.Seq.{sets}
 use Rattle.laws.specs.Lists.{onlyIf, each, sort, eql}
 use Rattle.mesh.specs.Model.{Raw}
 use Rattle.mesh.specs.Rings.{ringsOf}
@@ -21,8 +18,3 @@ holders key cell rs = each (holder key cell) rs
 abbrev pub held : List ℕ → ℕ → List Raw → List ℕ
 held key i [] = []
 held key i (c ∷ cs) = holders key i (ringsOf c) ++ held key (suc i) cs
-
--- xs are noted in a list from place k on, as many as fit, and r is the place behind them
-pub record Noted (before after : List ℕ) (k r : ℕ) (xs : List ℕ) : Type 0 where
-  pub count : r ≡ k + length xs
-  pub put : after ≡ sets before k xs

@@ -1,21 +1,21 @@
 use native.Mathlib.Omega.{arith}
 use borrow.Author.Needs.{needs}
-use Rattle.faces.proofs.note_cell.Statement.{statement}
-use Rattle.faces.proofs.note_cell.Tie as tie
-use Rattle.faces.proofs.note_cell.Reads as reads
-use Rattle.faces.proofs.note_cell.Lts as lts
-use Rattle.faces.proofs.note_flat.Reads as note-flat-reads
-use Rattle.faces.proofs.note_phed.Reads as note-phed-reads
+use Rattle.owners.proofs.note_cell.Statement.{statement}
+use Rattle.owners.proofs.note_cell.Tie as tie
+use Rattle.owners.proofs.note_cell.Reads as reads
+use Rattle.owners.proofs.note_cell.Lts as lts
+use Rattle.owners.proofs.note_flat.Reads as note-flat-reads
+use Rattle.owners.proofs.note_phed.Reads as note-phed-reads
 use Rattle.rings.proofs.put_cell.Reads as put-cell-reads
-use Rattle.faces.proofs.Loading.{flat-front}
+use Rattle.owners.proofs.Loading.{flat-front}
 use Rattle.faces.proofs.Bounds.{fixed-total}
 use Rattle.mesh.specs.Steps.{cellWith}
 use Rattle.mesh.specs.Rings.{ringsOf}
-use Rattle.faces.specs.Holding.{holders}
+use Rattle.owners.specs.Holding.{holders}
 use Rattle.mesh.proofs.ByKind.{phed-is}
 use lib.ListN.{length}
 use mathlib.Core.Path.{sym, ap, subst}
 use Rattle.faces.proofs.Noting.{noted-as}
 use mathlib.Core.List.{List}
 use Prim.Native.Nat.{ℕ, _+_, _<_}
 

@@ -16,12 +16,13 @@ use Rattle.mesh.specs.Model.{Raw, cellsFrom}
 use Rattle.mesh.specs.Rings.{phedRings, ringsOf}
 use Rattle.mesh.specs.Steps.{lead, WellCell}
 use Rattle.mesh.proofs.CellTallies.{left}
 use Rattle.faces.specs.Spans.{Sound}
 use Rattle.faces.proofs.Polyhedra.{runs-next}
 use Rattle.faces.proofs.Walking.{Walked, walked-start, walked-next, walked-end, next-cell, next-end, next-left, next-well, next-words}
-use Rattle.faces.specs.Holding.{holder, holders, held, Noted}
+use Rattle.faces.specs.Listing.{Noted}
+use Rattle.owners.specs.Holding.{holder, holders, held}
 use Rattle.faces.proofs.Bounds.{rings-few, cells-few}
 use Rattle.faces.proofs.Noting.{Noting, noting-start, noting-next, noting-end}
 
 -- no more cells are noted than there are rings
 pub holders-few : (key : List ℕ) (cell : ℕ) (rs : List (List ℕ)) → length (holders key cell rs) ≤ length rs

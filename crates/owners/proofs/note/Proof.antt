@@ -1,11 +1,11 @@
 use native.Mathlib.Omega.{arith}
 use borrow.Author.Needs.{needs}
-use Rattle.faces.proofs.note.Statement.{statement}
-use Rattle.faces.proofs.note.Tie as tie
-use Rattle.faces.proofs.note.Reads as reads
-use Rattle.faces.proofs.note.Lts as lts
-use Rattle.faces.proofs.same_ring.Reads as same-ring-reads
-use Rattle.faces.proofs.Noting.{holder-noted, holder-over, holder-none}
+use Rattle.owners.proofs.note.Statement.{statement}
+use Rattle.owners.proofs.note.Tie as tie
+use Rattle.owners.proofs.note.Reads as reads
+use Rattle.owners.proofs.note.Lts as lts
+use Rattle.owners.proofs.same_ring.Reads as same-ring-reads
+use Rattle.owners.proofs.Holders.{holder-noted, holder-over, holder-none}
 use borrow.Author.Tests.{not-true, not-false}
 use mathlib.Core.Path.{sym, _∙_}
 

@@ -1,14 +1,14 @@
 use native.Mathlib.Omega.{arith}
 use borrow.Author.Needs.{needs}
-use Rattle.faces.proofs.load_ring.Statement.{statement}
-use Rattle.faces.proofs.load_ring.Tie as tie
-use Rattle.faces.proofs.load_ring.Reads as reads
-use Rattle.faces.proofs.load_ring.Lts as lts
+use Rattle.owners.proofs.load_ring.Statement.{statement}
+use Rattle.owners.proofs.load_ring.Tie as tie
+use Rattle.owners.proofs.load_ring.Reads as reads
+use Rattle.owners.proofs.load_ring.Lts as lts
 use Rattle.faces.proofs.cell_span.Reads as cell-span-reads
 use Rattle.rings.proofs.put_cell.Reads as put-cell-reads
 use Rattle.rings.proofs.put_words.Reads as put-words-reads
-use Rattle.faces.proofs.Loading.{span-short, run-is, laid-end, laid-is}
+use Rattle.owners.proofs.Loading.{span-short, run-is, laid-end, laid-is}
 use Rattle.faces.proofs.Bounds.{fixed-total}
 use lib.Seq.{sets}
 use lib.ListN.{length}
 use mathlib.Core.Path.{refl, ap, _∙_}

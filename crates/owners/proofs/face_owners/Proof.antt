@@ -1,14 +1,14 @@
 use borrow.Author.Needs.{needs}
-use Rattle.faces.proofs.face_owners.Statement.{statement}
-use Rattle.faces.proofs.face_owners.Tie as tie
-use Rattle.faces.proofs.face_owners.Reads as reads
-use Rattle.faces.proofs.face_owners.Lts as lts
+use Rattle.owners.proofs.face_owners.Statement.{statement}
+use Rattle.owners.proofs.face_owners.Tie as tie
+use Rattle.owners.proofs.face_owners.Reads as reads
+use Rattle.owners.proofs.face_owners.Lts as lts
 use Rattle.mesh.proofs.accept.Reads as accept-reads
-use Rattle.faces.proofs.load_key.Reads as load-key-reads
-use Rattle.faces.proofs.note_cells.Reads as note-cells-reads
-use Rattle.faces.proofs.Owning.{refused-model, refused-face, face-there, answered}
-use Rattle.faces.proofs.Keys.{part-front, part-most}
+use Rattle.owners.proofs.load_key.Reads as load-key-reads
+use Rattle.owners.proofs.note_cells.Reads as note-cells-reads
+use Rattle.owners.proofs.Owning.{refused-model, refused-face, face-there, answered}
+use Rattle.owners.proofs.Keys.{part-front, part-most}
 use Rattle.faces.proofs.Rings.{sound-of}
 use Rattle.mesh.specs.Model.{modelOf}
 use mathlib.Core.Path.{refl, _∙_}
 

@@ -1,0 +1,2 @@
+-- Internal contracts on the owners of a face.
+pub mod Holding
