@@ -13,8 +13,8 @@ use borrow.Author.Tests.{ltb-true, ltb-false, lt-ltb}
 use Rattle.laws.specs.Lists.{onlyIf}
 use Rattle.laws.proofs.Stores.{sets-append}
 use Rattle.laws.proofs.Tests.{clash}
-use Rattle.model_file.specs.Records.{letter, count, coordsIn, kindsIn, wordsIn, endsIn, stage, misplaced, recordOff}
-use Rattle.model_file.specs.File.{chop, records, coordsOf, kindsOf, wordsOf, endsOf, opens}
+use Rattle.model_file.specs.Records.{letter, count, kindsIn, wordsIn, endsIn, stage, misplaced, recordOff}
+use Rattle.model_file.specs.File.{chop, records, kindsOf, wordsOf, endsOf, opens}
 use Rattle.model_file.specs.Steps.{judge, recordRefusal}
 use Rattle.model_file.specs.declared.Letter.{Letter}
 use Rattle.model_file.specs.declared.Letter.the-variants.{Node, Cell, More, Last, Other}
@@ -79,15 +79,13 @@ ends-as-cells rs j = let e = ends-count rs 0 false 0 (omega arith) j in omega ar
 
 -- ---- the pass
 
--- the lists so far, and what is left, behind n nodes
-pub record Filling (s : List ℕ) (n : ℕ) (coords₀ : List Float) (kinds₀ ends₀ words₀ : List ℕ) (coords : List Float) (kinds ends words : List ℕ) (p : Place) (at : ℕ) : Type 0 where
+-- the lists so far, and what is left
+pub record Filling (s : List ℕ) (kinds₀ ends₀ words₀ kinds ends words : List ℕ) (p : Place) (at : ℕ) : Type 0 where
   pub st : ℕ
   pub judging : Judging s st p at
-  pub coords-are : sets coords (p .coords) (coordsOf (records (drop at s))) ≡ sets coords₀ (3 * n) (coordsOf (records (drop (32 * n) s)))
   pub kinds-are : sets kinds (p .cells) (kindsOf (records (drop at s))) ≡ sets kinds₀ 0 (kindsOf (records s))
   pub ends-are : sets ends (p .cells - 1) (endsOf (ltb 0 (p .cells)) (p .words) (records (drop at s))) ≡ sets ends₀ 0 (endsOf false 0 (records s))
   pub words-are : sets words (p .words) (wordsOf (records (drop at s))) ≡ sets words₀ 0 (wordsOf (records s))
-  pub coords-long : length coords ≡ length coords₀
   pub kinds-long : length kinds ≡ length kinds₀
   pub ends-long : length ends ≡ length ends₀
   pub words-long : length words ≡ length words₀
@@ -97,28 +95,22 @@ pub nodes-room : (s : List ℕ) (n coords kinds ends words : ℕ) → Fitting s 
 nodes-room s n coords kinds ends words ok h = omega (arith, judging-start s n (ok .whole) h .coords, ok .coordsFit)
 
 module _ (s : List ℕ) (n : ℕ) (entry coords₀ : List Float) (kinds₀ ends₀ words₀ : List ℕ) (ok : Fitting s (length entry) (length kinds₀) (length ends₀) (length words₀)) (h : Nodes s n) (w : coords₀ ≡ sets entry 0 (nodeCoords (chop n s))) where
-  -- storing the leading nodes keeps the length
-  long₀ : length coords₀ ≡ length entry
-  long₀ = ap length w ∙ length-sets entry 0 (nodeCoords (chop n s))
-
   -- the start of the pass, behind them
-  pub filling-start : Filling s n coords₀ kinds₀ ends₀ words₀ coords₀ kinds₀ ends₀ words₀ (record { coords = 3 * n; cells = 0; words = 0 }) (32 * n)
+  pub filling-start : Filling s kinds₀ ends₀ words₀ kinds₀ ends₀ words₀ (record { coords = 3 * n; cells = 0; words = 0 }) (32 * n)
   filling-start =
       let p = behind s n h in
       record {
         st = 0;
         judging = judging-start s n (ok .whole) h;
-        coords-are = refl;
         kinds-are = ap (sets kinds₀ 0) (p .kinds);
         ends-are = ap (sets ends₀ 0) (p .ends);
         words-are = ap (sets words₀ 0) (p .words);
-        coords-long = refl;
         kinds-long = refl;
         ends-long = refl;
         words-long = refl;
       }
 
-  module _ (coords : List Float) (kinds ends words : List ℕ) (p : Place) (at : ℕ) (f : Filling s n coords₀ kinds₀ ends₀ words₀ coords kinds ends words p at) (lt : at < length s) where
+  module _ (kinds ends words : List ℕ) (p : Place) (at : ℕ) (f : Filling s kinds₀ ends₀ words₀ kinds ends words p at) (lt : at < length s) where
     -- a whole record is left, and not refused
     room : at + 32 ≤ length s
     room = fits s (f .st) p at (f .judging) lt
@@ -131,21 +123,19 @@ module _ (s : List ℕ) (n : ℕ) (entry coords₀ : List Float) (kinds₀ ends�
         (rw (q .0, q .1 .0) refl, q .1 .1)
 
     -- there is room for it
-    pub filling-room : Room (take 32 (drop at s)) p (length coords) (length kinds) (length ends) (length words)
+    pub filling-room : Room (take 32 (drop at s)) p (length kinds) (length ends) (length words)
     filling-room =
         let x = take 32 (drop at s) in
         let q = two-rows (misplaced (f .st) (letter x)) (recordOff (letter x) x) 0 (well .0) in
         let few = little (letter x) x (q .1 .0) in
         let j = f .judging in
         let t = records-step s at room in
-        let a = ap (λ (y : List (List ℕ)). length (coordsOf y)) t ∙ length-append (coordsIn (letter x) x) (coordsOf (records (drop (at + 32) s))) in
         let b = ap (λ (y : List (List ℕ)). length (kindsOf y)) t ∙ length-append (kindsIn (letter x) x) (kindsOf (records (drop (at + 32) s))) in
         let c = ap (λ (y : List (List ℕ)). length (wordsOf y)) t ∙ length-append (wordsIn (letter x) x) (wordsOf (records (drop (at + 32) s))) in
         let long = ap length (sym (part32 s at)) ∙ part-length s at room in
         record {
           long = long;
           little = few .words;
-          coordsFit = omega (arith, a, j .coords, ok .coordsFit, f .coords-long, long₀);
           kindsFit = omega (arith, b, j .cells, ok .kindsFit, f .kinds-long);
           endsFit = omega (arith, j .cells, ok .endsFit, f .ends-long);
           wordsFit = omega (arith, c, j .words, ok .wordsFit, f .words-long);
@@ -155,18 +145,17 @@ module _ (s : List ℕ) (n : ℕ) (entry coords₀ : List Float) (kinds₀ ends�
         }
 
     -- it is stored
-    pub filling-step : (coords' : List Float) (kinds' ends' words' : List ℕ) (q : Place) → Put (take 32 (drop at s)) p q coords coords' kinds kinds' ends ends' words words'
-        → Filling s n coords₀ kinds₀ ends₀ words₀ coords' kinds' ends' words' q (at + 32)
-    filling-step coords' kinds' ends' words' q u =
+    pub filling-step : (kinds' ends' words' : List ℕ) (q : Place) → Put (take 32 (drop at s)) p q kinds kinds' ends ends' words words'
+        → Filling s kinds₀ ends₀ words₀ kinds' ends' words' q (at + 32)
+    filling-step kinds' ends' words' q u =
         let x = take 32 (drop at s) in
         let rs = records (drop (at + 32) s) in
         let t = records-step s at room in
         let l = letter x in
-        subst (λ (y : Place). Filling s n coords₀ kinds₀ ends₀ words₀ coords' kinds' ends' words' y (at + 32)) (sym (u .place))
+        subst (λ (y : Place). Filling s kinds₀ ends₀ words₀ kinds' ends' words' y (at + 32)) (sym (u .place))
         (record {
           st = stage (letter x) x;
           judging = judging-step s (f .st) p at (f .judging) lt (well .0);
-          coords-are = ap (λ (y : List Float). sets y (p .coords + length (coordsIn l x)) (coordsOf rs)) (u .coordsAre) ∙ sym (ap (λ (y : List (List ℕ)). sets coords (p .coords) (coordsOf y)) t ∙ sets-append coords (p .coords) (coordsIn l x) (coordsOf rs)) ∙ f .coords-are;
           kinds-are = ap (λ (y : List ℕ). sets y (p .cells + length (kindsIn l x)) (kindsOf rs)) (u .kindsAre) ∙ sym (ap (λ (y : List (List ℕ)). sets kinds (p .cells) (kindsOf y)) t ∙ sets-append kinds (p .cells) (kindsIn l x) (kindsOf rs)) ∙ f .kinds-are;
           ends-are =
               ap (λ (y : List ℕ). sets y (p .cells + length (kindsIn l x) - 1) (endsOf (ltb 0 (p .cells + length (kindsIn l x))) (p .words + length (wordsIn l x)) rs)) (u .endsAre)
@@ -174,19 +163,18 @@ module _ (s : List ℕ) (n : ℕ) (entry coords₀ : List Float) (kinds₀ ends�
               ∙ sym (ap (λ (y : List (List ℕ)). sets ends (p .cells - 1) (endsOf (ltb 0 (p .cells)) (p .words) y)) t)
               ∙ f .ends-are;
           words-are = ap (λ (y : List ℕ). sets y (p .words + length (wordsIn l x)) (wordsOf rs)) (u .wordsAre) ∙ sym (ap (λ (y : List (List ℕ)). sets words (p .words) (wordsOf y)) t ∙ sets-append words (p .words) (wordsIn l x) (wordsOf rs)) ∙ f .words-are;
-          coords-long = ap length (u .coordsAre) ∙ length-sets coords (p .coords) (coordsIn l x) ∙ f .coords-long;
           kinds-long = ap length (u .kindsAre) ∙ length-sets kinds (p .cells) (kindsIn l x) ∙ f .kinds-long;
           ends-long = ap length (u .endsAre) ∙ length-sets ends (p .cells - 1) (endsIn l (ltb 0 (p .cells)) (p .words)) ∙ f .ends-long;
           words-long = ap length (u .wordsAre) ∙ length-sets words (p .words) (wordsIn l x) ∙ f .words-long;
         })
 
   -- the end of the pass
-  pub filling-end : (coords : List Float) (kinds ends words : List ℕ) (p : Place) (at : ℕ) → Filling s n coords₀ kinds₀ ends₀ words₀ coords kinds ends words p at → length s ≤ at
-      → Filled s entry coords kinds₀ kinds ends₀ ends words₀ words
-  filling-end coords kinds ends words p at f end =
+  pub filling-end : (kinds ends words : List ℕ) (p : Place) (at : ℕ) → Filling s kinds₀ ends₀ words₀ kinds ends words p at → length s ≤ at
+      → Filled s entry coords₀ kinds₀ kinds ends₀ ends words₀ words
+  filling-end kinds ends words p at f end =
       let t = records-end s at end in
       record {
-        coordsAre = sym (ap (λ (y : List (List ℕ)). sets coords (p .coords) (coordsOf y)) t) ∙ f .coords-are ∙ nodes-stored entry coords₀ n s h w;
+        coordsAre = nodes-stored entry coords₀ n s h (ok .judgedWell) w;
         kindsAre = sym (ap (λ (y : List (List ℕ)). sets kinds (p .cells) (kindsOf y)) t) ∙ f .kinds-are;
         endsAre = sym (ap (λ (y : List (List ℕ)). sets ends (p .cells - 1) (endsOf (ltb 0 (p .cells)) (p .words) y)) t) ∙ f .ends-are;
         wordsAre = sym (ap (λ (y : List (List ℕ)). sets words (p .words) (wordsOf y)) t) ∙ f .words-are;

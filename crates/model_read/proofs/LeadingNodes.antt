@@ -2,23 +2,24 @@
 use Prim.Native.Nat.{ℕ, zero, suc, _+_, _*_, _-_, _/_, _%_, _≤_, _<_}
 use mathlib.Core.Path.{_≡_, refl, sym, ap, _∙_, subst, subst₂}
 use mathlib.Core.Bool.{Bool, true, false, not, cond, _&&_}
-use mathlib.Core.List.{List, [], _∷_, _++_}
+use mathlib.Core.List.{List, [], _∷_, _++_, append-nil}
 use native.Mathlib.Nat.{sub-zero}
 use native.Mathlib.Omega.{arith}
 use lib.Dec.{eqb}
 use lib.ListN.{length, getD, take, drop, length-append, length-drop}
 use lib.Seq.{slice, sets, take-take, drop-drop}
 use lib.Ieee.{Float}
-use borrow.Author.Tests.{eq-eqb, ne-eqb}
+use borrow.Author.Tests.{eqb-true, eq-eqb, ne-eqb, not-false}
 use Rattle.laws.specs.Bytes.{number, zeros}
 use Rattle.laws.specs.Refusals.{refusal}
 use Rattle.laws.proofs.Stores.{take-drop, sets-append}
 use Rattle.laws.proofs.Tests.{and-parts}
-use Rattle.model_file.specs.Records.{letter, coordsIn, recordOff, misplaced, stage}
+use Rattle.model_file.specs.Records.{letter, count, coordsIn, recordOff, misplaced, stage}
 use Rattle.model_file.specs.File.{chop, records, coordsOf, kindsOf, wordsOf, endsOf, recordsTable}
 use Rattle.model_file.specs.Steps.{judge}
 use Rattle.model_file.specs.declared.Letter.{Letter}
-use Rattle.model_file.specs.declared.Letter.the-variants.{Node}
+use Rattle.model_file.specs.declared.Letter.the-variants.{Node, Cell, More, Last, Other}
+use Rattle.model_file.proofs.Judgement.{passed, stage-pos}
 use Rattle.model_file.proofs.Decoded.{coords-step, kinds-step, words-step, ends-step}
 use Rattle.model_read.specs.Steps.{rightNode, leading, Nodes, nodeCoords}
 use Rattle.model_read.proofs.JudgePass.{Judging, records-step}
@@ -68,6 +69,7 @@ pub record Led (front rest rs : List (List ℕ)) : Type 0 where
   pub kinds : kindsOf rest ≡ kindsOf rs
   pub ends : endsOf false 0 rest ≡ endsOf false 0 rs
   pub words : wordsOf rest ≡ wordsOf rs
+  pub none : leading rest ≡ 0
 
 -- one node more
 led-more : (r : List ℕ) (front rest rs : List (List ℕ)) → rightNode r ≡ true → Led front rest rs → Led (r ∷ front) rest (r ∷ rs)
@@ -80,16 +82,49 @@ led-more r front rest rs h p =
       kinds = p .kinds ∙ sym (kinds-step r rs Node e);
       ends = p .ends ∙ sym (ends-step r rs Node e false 0);
       words = p .words ∙ sym (words-step r rs Node e);
+      none = p .none;
     }
 
 -- all that lead
 led : (rs : List (List ℕ)) → Led (take (leading rs) rs) (drop (leading rs) rs) rs
-led [] = record { judged = refl; coords = refl; kinds = refl; ends = refl; words = refl }
+led [] = record { judged = refl; coords = refl; kinds = refl; ends = refl; words = refl; none = refl }
 led (r ∷ rs) = go (rightNode r) refl (led rs)
   where
     go : (b : Bool) → rightNode r ≡ b → Led (take (leading rs) rs) (drop (leading rs) rs) rs → Led (take (cond b (suc (leading rs)) 0) (r ∷ rs)) (drop (cond b (suc (leading rs)) 0) (r ∷ rs)) (r ∷ rs)
     go true e p = led-more r (take (leading rs) rs) (drop (leading rs) rs) rs e p
-    go false e p = record { judged = refl; coords = refl; kinds = refl; ends = refl; words = refl }
+    go false e p = record { judged = refl; coords = refl; kinds = refl; ends = refl; words = refl; none = ap (λ (b : Bool). cond b (suc (leading rs)) 0) e }
+
+-- ---- no node stands behind them
+
+-- an N with nothing wrong leads
+node-leads : (r : List ℕ) → letter r ≡ Node → recordOff Node r ≡ false → rightNode r ≡ true
+node-leads r e g = go (eqb (getD r 0 0) 78) refl
+  where
+    go : (b : Bool) → eqb (getD r 0 0) 78 ≡ b → rightNode r ≡ true
+    go true h = rw (h, not-false (zeros (slice 1 8 r)) g)
+    go false h = absurd (no-node (eqb (getD r 0 0) 67) (eqb (getD r 0 0) 75) (eqb (getD r 0 0) 84) (sym (ap (λ (b : Bool). cond b Node (cond (eqb (getD r 0 0) 67) Cell (cond (eqb (getD r 0 0) 75) More (cond (eqb (getD r 0 0) 84) Last Other)))) h) ∙ e))
+      where
+        no-node : (a b c : Bool) → cond a Cell (cond b More (cond c Last Other)) ≡ Node → ⊥
+        no-node true b c k = let z : _≡_ {A = ℕ} 0 1 = cc in omega arith
+        no-node false true c k = let z : _≡_ {A = ℕ} 0 1 = cc in omega arith
+        no-node false false true k = let z : _≡_ {A = ℕ} 0 1 = cc in omega arith
+        no-node false false false k = let z : _≡_ {A = ℕ} 0 1 = cc in omega arith
+
+-- records with nothing wrong, none of them leading: no coordinates
+pub none-behind : (rs : List (List ℕ)) (st : ℕ) → judge st rs ≡ 0 → (st ≡ 0 → leading rs ≡ 0) → coordsOf rs ≡ []
+none-behind [] st j h = refl
+none-behind (r ∷ rs) st j h = go (letter r) refl (λ t k n. none-behind rs t k n)
+  where
+    go : (l : Letter) → letter r ≡ l → ((t : ℕ) → judge t rs ≡ 0 → (t ≡ 0 → leading rs ≡ 0) → coordsOf rs ≡ []) → coordsOf (r ∷ rs) ≡ []
+    go Node e ih =
+        let q = passed st r rs Node e j in
+        let z = eqb-true st 0 (not-false (eqb st 0) (q .place)) in
+        let n = sym (ap (λ (b : Bool). cond b (suc (leading rs)) 0) (node-leads r e (q .good))) ∙ h z in
+        absurd (omega arith)
+    go Cell e ih = coords-step r rs Cell e ∙ ih (stage Cell r) (passed st r rs Cell e j .rest) (λ z. absurd (omega (arith, stage-pos (count r))))
+    go More e ih = coords-step r rs More e ∙ ih (stage More r) (passed st r rs More e j .rest) (λ z. absurd (omega (arith, stage-pos (count r))))
+    go Last e ih = coords-step r rs Last e ∙ ih 3 (passed st r rs Last e j .rest) (λ z. absurd (omega arith))
+    go Other e ih = coords-step r rs Other e ∙ ih 3 (passed st r rs Other e j .rest) (λ z. absurd (omega arith))
 
 -- ---- of a file
 
@@ -161,9 +196,9 @@ nodes-more l l' n i s h e =
 pub nodes-end : (l : List Float) (n i : ℕ) (s : List ℕ) → n ≤ i → sets l (3 * i) (nodeCoords (chop (n - i) (drop (32 * i) s))) ≡ l
 nodes-end l n i s h = let a : n - i ≡ 0 = omega arith in rw a
 
--- they are stored: what is left to store
-pub nodes-stored : (l l' : List Float) (n : ℕ) (s : List ℕ) → Nodes s n → l' ≡ sets l 0 (nodeCoords (chop n s)) → sets l' (3 * n) (coordsOf (records (drop (32 * n) s))) ≡ sets l 0 (coordsOf (records s))
-nodes-stored l l' n s h e =
-    let rest = coordsOf (records (drop (32 * n) s)) in
-    let k : 0 + length (nodeCoords (chop n s)) ≡ 3 * n = omega (arith, length-nodeCoords n s) in
-    sym (ap (sets l 0) (behind s n h .coords) ∙ sets-append l 0 (nodeCoords (chop n s)) rest ∙ (λ i. sets (sym e i) (k i) rest))
+-- they are stored, and these are all coordinates
+pub nodes-stored : (l l' : List Float) (n : ℕ) (s : List ℕ) → Nodes s n → judge 0 (records s) ≡ 0 → l' ≡ sets l 0 (nodeCoords (chop n s)) → l' ≡ sets l 0 (coordsOf (records s))
+nodes-stored l l' n s h j e =
+    let p = behind s n h in
+    let z = none-behind (records (drop (32 * n) s)) 0 (p .judged ∙ j) (λ _. p .none) in
+    e ∙ ap (sets l 0) (sym (p .coords ∙ ap (λ (t : List Float). nodeCoords (chop n s) ++ t) z ∙ append-nil (nodeCoords (chop n s))))

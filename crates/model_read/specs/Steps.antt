@@ -63,10 +63,9 @@ pub record Stored (r : List ℕ) (at n j k most : ℕ) (words words' : List ℕ)
   pub wordsAre : words' ≡ sets words (at + j) (wordsBetween j k r)
 
 -- room for what a record adds, in lists of these lengths
-pub record Room (r : List ℕ) (p : Place) (coords kinds ends words : ℕ) : Type 0 where
+pub record Room (r : List ℕ) (p : Place) (kinds ends words : ℕ) : Type 0 where
   pub long : length r ≡ 32
   pub little : length (wordsIn (letter r) r) ≤ 14
-  pub coordsFit : p .coords + length (coordsIn (letter r) r) ≤ coords
   pub kindsFit : p .cells + length (kindsIn (letter r) r) ≤ kinds
   pub endsFit : p .cells ≤ ends
   pub wordsFit : p .words + length (wordsIn (letter r) r) ≤ words
@@ -75,9 +74,8 @@ pub record Room (r : List ℕ) (p : Place) (coords kinds ends words : ℕ) : Typ
   pub fewWords : p .words < 2 ^ 32
 
 -- what a record leaves in the lists, and the place after it
-pub record Put (r : List ℕ) (p q : Place) (coords coords' : List Float) (kinds kinds' ends ends' words words' : List ℕ) : Type 0 where
+pub record Put (r : List ℕ) (p q : Place) (kinds kinds' ends ends' words words' : List ℕ) : Type 0 where
   pub place : q ≡ after (letter r) r p
-  pub coordsAre : coords' ≡ sets coords (p .coords) (coordsIn (letter r) r)
   pub kindsAre : kinds' ≡ sets kinds (p .cells) (kindsIn (letter r) r)
   pub endsAre : ends' ≡ sets ends (p .cells - 1) (endsIn (letter r) (ltb 0 (p .cells)) (p .words))
   pub wordsAre : words' ≡ sets words (p .words) (wordsIn (letter r) r)

@@ -50,20 +50,6 @@ fn put_node(r: &[u8], coords: &mut [f64], at: usize)
     put_coord(coords, at + 2, floats::le_u64(r, 24));
 }
 
-// What a record adds to each list.
-fn fill_coords(l: Letter, r: &[u8], coords: &mut [f64], at: usize)
-    requires { ⌜ (length (now r) ≡ 32) × (at + length (coordsIn l (now r)) ≤ length (now coords)) ⌝ }
-    ensures { λ _. ⌜ now (coords .exit) ≡ sets (now (coords .entry)) at (coordsIn l (now (r .entry))) ⌝ }
-{
-    match l {
-        Letter::Node => put_node(r, coords, at),
-        Letter::Cell => {}
-        Letter::More => {}
-        Letter::Last => {}
-        Letter::Other => {}
-    }
-}
-
 // The kind of a C.
 fn put_kind(r: &[u8], kinds: &mut [u8], at: usize)
     requires { ⌜ (length (now r) ≡ 32) × (at + 1 ≤ length (now kinds)) ⌝ }
@@ -72,6 +58,7 @@ fn put_kind(r: &[u8], kinds: &mut [u8], at: usize)
     kinds[at] = r[1];
 }
 
+// What a record adds to the kinds.
 fn fill_kinds(l: Letter, r: &[u8], kinds: &mut [u8], at: usize)
     requires { ⌜ (length (now r) ≡ 32) × (at + length (kindsIn l (now r)) ≤ length (now kinds)) ⌝ }
     ensures { λ _. ⌜ now (kinds .exit) ≡ sets (now (kinds .entry)) at (kindsIn l (now (r .entry))) ⌝ }
@@ -95,6 +82,7 @@ fn put_end(ends: &mut [u32], cells: usize, words: usize)
     }
 }
 
+// What it adds to the ends.
 fn fill_ends(l: Letter, ends: &mut [u32], cells: usize, words: usize)
     requires { ⌜ (cells ≤ length (now ends)) × (words < 2 ^ 32) ⌝ }
     ensures { λ _. ⌜ now (ends .exit) ≡ sets (now (ends .entry)) (cells - 1) (endsIn l (ltb 0 cells) words) ⌝ }
@@ -212,6 +200,7 @@ fn put_words(r: &[u8], words: &mut [u32], at: usize)
     put_last(r, words, at, n, k);
 }
 
+// What it adds to the words.
 fn fill_words(l: Letter, r: &[u8], words: &mut [u32], at: usize)
     requires { ⌜ (length (now r) ≡ 32) × (length (wordsIn l (now r)) ≤ 14) × (at + length (wordsIn l (now r)) ≤ length (now words)) ⌝ }
     ensures { λ _. ⌜ now (words .exit) ≡ sets (now (words .entry)) at (wordsIn l (now (r .entry))) ⌝ }
@@ -225,20 +214,12 @@ fn fill_words(l: Letter, r: &[u8], words: &mut [u32], at: usize)
     }
 }
 
-// What a record adds to all of them.
-fn fill_record(
-    r: &[u8],
-    coords: &mut [f64],
-    kinds: &mut [u8],
-    ends: &mut [u32],
-    words: &mut [u32],
-    p: Place,
-) -> Place
-    requires { ⌜ Room (now r) p (length (now coords)) (length (now kinds)) (length (now ends)) (length (now words)) ⌝ }
-    ensures { λ q. ⌜ Put (now (r .entry)) p q (now (coords .entry)) (now (coords .exit)) (now (kinds .entry)) (now (kinds .exit)) (now (ends .entry)) (now (ends .exit)) (now (words .entry)) (now (words .exit)) ⌝ }
+// What a record behind the leading nodes adds to the lists.
+fn fill_record(r: &[u8], kinds: &mut [u8], ends: &mut [u32], words: &mut [u32], p: Place) -> Place
+    requires { ⌜ Room (now r) p (length (now kinds)) (length (now ends)) (length (now words)) ⌝ }
+    ensures { λ q. ⌜ Put (now (r .entry)) p q (now (kinds .entry)) (now (kinds .exit)) (now (ends .entry)) (now (ends .exit)) (now (words .entry)) (now (words .exit)) ⌝ }
 {
     let l = letter_of(r[0]);
-    fill_coords(l, r, coords, p.coords);
     fill_kinds(l, r, kinds, p.cells);
     fill_ends(l, ends, p.cells, p.words);
     fill_words(l, r, words, p.words);
@@ -259,7 +240,7 @@ fn fill_nodes(bytes: &[u8], coords: &mut [f64], n: usize)
     }
 }
 
-// The filling pass: the leading nodes, then record by record.
+// The filling pass: the coordinates of the leading nodes, which are all, then record by record.
 pub fn fill_all(
     bytes: &[u8],
     coords: &mut [f64],
@@ -280,7 +261,7 @@ pub fn fill_all(
     let mut at = 32 * nodes;
     while at < bytes.len() {
         let e = at + 32;
-        p = fill_record(&bytes[at..e], coords, kinds, ends, words, p);
+        p = fill_record(&bytes[at..e], kinds, ends, words, p);
         at = e;
     }
 }

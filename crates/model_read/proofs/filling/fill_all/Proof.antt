@@ -1,22 +1,20 @@
 use Prim.Native.Nat.{ℕ, _-_, _<_}
 use mathlib.Core.List.{List}
-use mathlib.Core.Path.{subst, sym, ap, _∙_}
+use mathlib.Core.Path.{subst, sym}
 use native.Mathlib.Omega.{arith}
 use lib.ListN.{length}
-use lib.Seq.{length-sets}
 use borrow.Author.Needs.{needs}
-use Rattle.model_file.specs.File.{chop}
-use Rattle.model_read.specs.Steps.{nodeCoords, Room, Put}
+use Rattle.model_read.specs.Steps.{Room, Put}
 use Rattle.model_read.proofs.FillPass.{Filling, nodes-room, filling-start, filling-room, filling-step, filling-end}
 use Rattle.model_read.proofs.JudgePass.{part32}
 use Rattle.model_read.proofs.filling.fill_all.Statement.{statement}
 use Rattle.model_read.proofs.filling.fill_all.Tie as tie
 
 abbrev Inv-loop : tie.InvT-loop
-Inv-loop bytes coords₀ kinds₀ ends₀ words₀ nodes p₀ at₀ coords kinds ends words p at = Filling bytes nodes coords₀ kinds₀ ends₀ words₀ coords kinds ends words p at
+Inv-loop bytes coords kinds₀ ends₀ words₀ nodes p₀ at₀ kinds ends words p at = Filling bytes kinds₀ ends₀ words₀ kinds ends words p at
 
 abbrev μ-loop : tie.MeasureT-loop
-μ-loop bytes coords₀ kinds₀ ends₀ words₀ nodes p₀ at₀ coords kinds ends words p at = length bytes - at
+μ-loop bytes coords kinds₀ ends₀ words₀ nodes p₀ at₀ kinds ends words p at = length bytes - at
 
 fill-nodes-requires : tie.Need-fill-nodes-requires Inv-loop μ-loop
 fill-nodes-requires c κs =
@@ -51,33 +49,29 @@ part-fill-record-end c = search needs
 
 fill-record-requires : tie.Need-fill-record-requires Inv-loop μ-loop
 fill-record-requires c κs =
-    let o = c .before .before .before .before .before .before .loop in
-    let b = c .before .before .before .before .before .before .before .before .before .before .before .before .before .before .before .before in
-    let g = c .before .before .before .before .before .before .before .before .before .fill-nodes in
+    let o = c .before .before .before .before .before .loop in
+    let b = c .before .before .before .before .before .before .before .before .before .before .before .before .before .before .before in
+    let g = c .before .before .before .before .before .before .before .before .fill-nodes in
     let a = b .args in
-    let lt : o .at < length (a .bytes .now) = c .before .before .before .before .before .loop-test .taken in
-    subst (λ (r : List ℕ). Room r (o .p) (length (o .coords)) (length (o .kinds)) (length (o .ends)) (length (o .words))) (sym (part32 (a .bytes .now) (o .at))) (filling-room (a .bytes .now) (a .nodes) (a .coords .now) (g .last .1 .0) (a .kinds .now) (a .ends .now) (a .words .now) (b .pre .0) (b .pre .1) (g .ensures) (o .coords) (o .kinds) (o .ends) (o .words) (o .p) (o .at) (o .inv) lt)
+    let lt : o .at < length (a .bytes .now) = c .before .before .before .before .loop-test .taken in
+    subst (λ (r : List ℕ). Room r (o .p) (length (o .kinds)) (length (o .ends)) (length (o .words))) (sym (part32 (a .bytes .now) (o .at))) (filling-room (a .bytes .now) (a .nodes) (a .coords .now) (g .last .1 .0) (a .kinds .now) (a .ends .now) (a .words .now) (b .pre .0) (b .pre .1) (g .ensures) (o .kinds) (o .ends) (o .words) (o .p) (o .at) (o .inv) lt)
 
 loop-less : tie.Need-loop-less Inv-loop μ-loop
-loop-less c = omega (arith, c .before .before .before .before .before .before .before .before .before .before .before .before .before .before .loop-test .taken)
+loop-less c = omega (arith, c .before .before .before .before .before .before .before .before .before .before .before .loop-test .taken)
 
 loop-again : tie.Need-loop-again Inv-loop μ-loop
 loop-again c =
-    let o = c .before .before .before .before .before .before .before .before .before .before .before .before .before .before .before .loop in
-    let b = c .before .before .before .before .before .before .before .before .before .before .before .before .before .before .before .before .before .before .before .before .before .before .before .before .before in
-    let g = c .before .before .before .before .before .before .before .before .before .before .before .before .before .before .before .before .before .before .fill-nodes in
+    let o = c .before .before .before .before .before .before .before .before .before .before .before .before .loop in
+    let b = c .before .before .before .before .before .before .before .before .before .before .before .before .before .before .before .before .before .before .before .before .before .before in
+    let g = c .before .before .before .before .before .before .before .before .before .before .before .before .before .before .before .fill-nodes in
     let a = b .args in
-    let lt : o .at < length (a .bytes .now) = c .before .before .before .before .before .before .before .before .before .before .before .before .before .before .loop-test .taken in
-    let e = c .before .before .before .before .before .before .before .before .fill-record in
-    filling-step (a .bytes .now) (a .nodes) (a .coords .now) (g .last .1 .0) (a .kinds .now) (a .ends .now) (a .words .now) (b .pre .0) (b .pre .1) (g .ensures) (o .coords) (o .kinds) (o .ends) (o .words) (o .p) (o .at) (o .inv) lt (e .last .1 .0) (e .last .1 .1 .0) (e .last .1 .1 .1 .0) (e .last .1 .1 .1 .1 .0) (e .result)
-    (subst (λ (r : List ℕ). Put r (o .p) (e .result) (o .coords) (e .last .1 .0) (o .kinds) (e .last .1 .1 .0) (o .ends) (e .last .1 .1 .1 .0) (o .words) (e .last .1 .1 .1 .1 .0)) (part32 (a .bytes .now) (o .at)) (e .ensures))
+    let lt : o .at < length (a .bytes .now) = c .before .before .before .before .before .before .before .before .before .before .before .loop-test .taken in
+    let e = c .before .before .before .before .before .before .fill-record in
+    filling-step (a .bytes .now) (a .nodes) (a .coords .now) (g .last .1 .0) (a .kinds .now) (a .ends .now) (a .words .now) (b .pre .0) (b .pre .1) (g .ensures) (o .kinds) (o .ends) (o .words) (o .p) (o .at) (o .inv) lt (e .last .1 .0) (e .last .1 .1 .0) (e .last .1 .1 .1 .0) (e .result)
+    (subst (λ (r : List ℕ). Put r (o .p) (e .result) (o .kinds) (e .last .1 .0) (o .ends) (e .last .1 .1 .0) (o .words) (e .last .1 .1 .1 .0)) (part32 (a .bytes .now) (o .at)) (e .ensures))
 
 same-length : tie.Need-same-length Inv-loop μ-loop
-same-length c =
-    let b = c .before .before .before .before .before .before .before .before .before .before .before in
-    let g = c .before .before .before .before .fill-nodes in
-    let a = b .args in
-    c .before .loop .inv .coords-long ∙ ap length (g .ensures) ∙ length-sets (a .coords .now) 0 (nodeCoords (chop (a .nodes) (a .bytes .now)))
+same-length c = search needs
 
 same-length-2 : tie.Need-same-length-2 Inv-loop μ-loop
 same-length-2 c = c .before .loop .inv .kinds-long
@@ -94,7 +88,7 @@ returns c =
     let b = c .before .before .before .before .before .before .before .before .before .before .before in
     let g = c .before .before .before .before .fill-nodes in
     let a = b .args in
-    filling-end (a .bytes .now) (a .nodes) (a .coords .now) (g .last .1 .0) (a .kinds .now) (a .ends .now) (a .words .now) (b .pre .0) (b .pre .1) (g .ensures) (o .coords) (o .kinds) (o .ends) (o .words) (o .p) (o .at) (o .inv) (c .loop-test .left)
+    filling-end (a .bytes .now) (a .nodes) (a .coords .now) (g .last .1 .0) (a .kinds .now) (a .ends .now) (a .words .now) (b .pre .0) (b .pre .1) (g .ensures) (o .kinds) (o .ends) (o .words) (o .p) (o .at) (o .inv) (c .loop-test .left)
 
 pub fill-all-spec : {M : Type 1} → statement M
 fill-all-spec =

@@ -1,12 +1,11 @@
 use Prim.Native.Nat.{_+_, _-_, _≤_}
 use mathlib.Core.Path.{subst, sym, ap, _∙_}
-use native.Mathlib.Omega.{arith}
 use lib.Dec.{ltb}
 use lib.ListN.{length}
 use lib.Seq.{sets}
 use borrow.Author.Needs.{needs}
 use Rattle.model_file.specs.declared.Letter.{Letter}
-use Rattle.model_file.specs.Records.{coordsIn, kindsIn, wordsIn, endsIn}
+use Rattle.model_file.specs.Records.{kindsIn, wordsIn, endsIn}
 use Rattle.model_read.specs.Steps.{after}
 use Rattle.model_read.proofs.filling.fill_record.Statement.{statement}
 use Rattle.model_read.proofs.filling.fill_record.Tie as tie
@@ -17,40 +16,25 @@ shared-slice-read-letter-of c = search needs
 letter-of-requires : tie.Need-letter-of-requires
 letter-of-requires c κs = search needs
 
-fill-coords-requires : tie.Need-fill-coords-requires
-fill-coords-requires c κs =
-    let b = c .before .before .before .before .before .before .before .before in
-    let a = b .args in
-    let l = sym (c .before .letter-of .ensures) in
-    (b .pre .long, subst (λ (x : Letter). a .p .coords + length (coordsIn x (a .r .now)) ≤ length (a .coords .now)) l (b .pre .coordsFit))
-
 fill-kinds-requires : tie.Need-fill-kinds-requires
 fill-kinds-requires c κs =
-    let b = c .before .before .before .before .before .before .before .before .before .before .before .before in
+    let b = c .before .before .before .before .before .before .before in
     let a = b .args in
-    let l = sym (c .before .before .before .before .before .letter-of .ensures) in
+    let l = sym (c .before .letter-of .ensures) in
     (b .pre .long, subst (λ (x : Letter). a .p .cells + length (kindsIn x (a .r .now)) ≤ length (a .kinds .now)) l (b .pre .kindsFit))
 
 fill-ends-requires : tie.Need-fill-ends-requires
-fill-ends-requires c κs =
-    let b = c .before .before .before .before .before .before .before .before .before .before .before .before .before .before .before .before in
-    let a = b .args in
-    let l = sym (c .before .before .before .before .before .before .before .before .before .letter-of .ensures) in
-    (b .pre .endsFit, b .pre .fewWords)
+fill-ends-requires c κs = search needs
 
 fill-words-requires : tie.Need-fill-words-requires
 fill-words-requires c κs =
-    let b = c .before .before .before .before .before .before .before .before .before .before .before .before .before .before .before .before .before .before .before .before in
+    let b = c .before .before .before .before .before .before .before .before .before .before .before .before .before .before .before in
     let a = b .args in
-    let l = sym (c .before .before .before .before .before .before .before .before .before .before .before .before .before .letter-of .ensures) in
+    let l = sym (c .before .before .before .before .before .before .before .before .before .letter-of .ensures) in
     (b .pre .long, subst (λ (x : Letter). length (wordsIn x (a .r .now)) ≤ 14) l (b .pre .little), subst (λ (x : Letter). a .p .words + length (wordsIn x (a .r .now)) ≤ length (a .words .now)) l (b .pre .wordsFit))
 
 place-after-requires : tie.Need-place-after-requires
-place-after-requires c κs =
-    let b = c .before .before .before .before .before .before .before .before .before .before .before .before .before .before .before .before .before .before .before .before .before .before .before in
-    let a = b .args in
-    let l = sym (c .before .before .before .before .before .before .before .before .before .before .before .before .before .before .before .before .letter-of .ensures) in
-    (b .pre .long, b .pre .fewCoords, b .pre .fewCells, omega (arith, b .pre .fewWords))
+place-after-requires c κs = search needs
 
 same-length : tie.Need-same-length
 same-length c = search needs
@@ -61,17 +45,12 @@ same-length-2 c = search needs
 same-length-3 : tie.Need-same-length-3
 same-length-3 c = search needs
 
-same-length-4 : tie.Need-same-length-4
-same-length-4 c = search needs
-
 returns : tie.Need-returns
 returns c =
-    let b = c .before .before .before .before .before .before .before .before .before .before .before .before .before .before .before .before .before .before .before .before .before .before .before .before in
-    let a = b .args in
-    let l = (c .before .before .before .before .before .before .before .before .before .before .before .before .before .before .before .before .before .letter-of .ensures) in
+    let a = c .before .before .before .before .before .before .before .before .before .before .before .before .before .before .before .before .before .before .before .args in
+    let l = c .before .before .before .before .before .before .before .before .before .before .before .before .before .letter-of .ensures in
     record {
       place = c .place-after .ensures ∙ ap (λ (x : Letter). after x (a .r .now) (a .p)) l;
-      coordsAre = c .before .before .before .before .before .before .before .before .before .before .before .before .before .before .before .fill-coords .ensures ∙ ap (λ (x : Letter). sets (a .coords .now) (a .p .coords) (coordsIn x (a .r .now))) l;
       kindsAre = c .before .before .before .before .before .before .before .before .before .before .before .fill-kinds .ensures ∙ ap (λ (x : Letter). sets (a .kinds .now) (a .p .cells) (kindsIn x (a .r .now))) l;
       endsAre = c .before .before .before .before .before .before .before .fill-ends .ensures ∙ ap (λ (x : Letter). sets (a .ends .now) (a .p .cells - 1) (endsIn x (ltb 0 (a .p .cells)) (a .p .words))) l;
       wordsAre = c .before .before .before .fill-words .ensures ∙ ap (λ (x : Letter). sets (a .words .now) (a .p .words) (wordsIn x (a .r .now))) l;
@@ -83,7 +62,6 @@ fill-record-spec =
     (tie.spec
     shared-slice-read-letter-of
     letter-of-requires
-    fill-coords-requires
     fill-kinds-requires
     fill-ends-requires
     fill-words-requires
@@ -91,5 +69,4 @@ fill-record-spec =
     same-length
     same-length-2
     same-length-3
-    same-length-4
     returns)
