@@ -1,13 +1,12 @@
 -- Numbers and bytes turn into one another; runs of zero bytes; what holds of each element.
 use Prim.Native.Nat.{ℕ, zero, suc, _+_, _*_, _/_, _%_, _^_, _≤_, _<_}
-use mathlib.Core.Path.{_≡_, refl, sym, ap, ap₂, _∙_}
+use mathlib.Core.Path.{_≡_, refl, ap, ap₂}
 use mathlib.Core.List.{List, [], _∷_, _++_}
-use mathlib.Core.Bool.{true, _&&_}
+use mathlib.Core.Bool.{true}
 use native.Mathlib.Nat.{pow-suc}
 use native.Mathlib.Omega.{arith}
-use native.Mathlib.Numerals.{add-one}
-use lib.ListN.{length, getD, take, drop, replicate}
-use lib.Seq.{slice, slice-cons, slice-empty}
+use lib.ListN.{length, take, drop, replicate}
+use lib.Seq.{slice, slice-empty}
 use lib.Dec.{eqb}
 use borrow.Author.Tests.{eqb-true}
 use Rattle.laws.specs.Bytes.{number, bytes, zeros}
@@ -40,10 +39,6 @@ zeros-true (b ∷ l) e =
 pub zeros-replicate : (n : ℕ) → zeros (replicate n 0) ≡ true
 zeros-replicate zero = refl
 zeros-replicate (suc n) = zeros-replicate n
-
--- one byte of a run
-pub zeros-step : (i e : ℕ) (s : List ℕ) → i < e → e ≤ length s → zeros (slice i e s) ≡ (eqb (getD s i 0) 0 && zeros (slice (i + 1) e s))
-zeros-step i e s h k = ap zeros (slice-cons i e s 0 h k) ∙ ap (λ (j : ℕ). eqb (getD s i 0) 0 && zeros (slice j e s)) (sym (add-one i))
 
 -- no byte of a run
 pub zeros-end : (i e : ℕ) (s : List ℕ) → e ≤ i → i ≤ e → zeros (slice i e s) ≡ true
