@@ -5,6 +5,7 @@ ghost use lib.ListN.{length};
 ghost use Rattle.laws.specs.Lists.{pairsOf, triplesOf};
 ghost use Rattle.index.specs.Faces.{input, base, Laid, Room, Indexed};
 ghost use Rattle.seek.specs.Candidates.{Ready, Sought};
+ghost use Rattle.seek.specs.Steps.{Hidden};
 ghost use Rattle.triple_keys.specs.Keys.{Keyed};
 ghost use Rattle.pairs.specs.Tables.{withIndex, ReadyAll};
 ghost use Rattle.pairs.specs.Work.{nodeWork, tripleWork, byNodes, Few};
@@ -88,20 +89,22 @@ pub fn prepare(work: &mut [u32], at: index::Places) -> bool
     by_nodes(&work[..found], at)
 }
 
-// The candidates of face lo; `by` is the second index, and the slice is ready for the next face.
+// The candidates of face lo, of which none is before `end`; `by` is the second index, and the slice is ready for the next face.
 pub fn candidates_of(
     work: &mut [u32],
     at: index::Places,
     by: index::Places,
     lo: usize,
+    end: usize,
     by_nodes: bool,
 ) -> usize
     requires { ⌜ Ready at lo (now work) × Keyed at by (base at (now work)) ⌝ }
+    requires { ⌜ (end ≤ at .faces) × Hidden at (input at (now work)) lo end ⌝ }
     ensures { λ r. ⌜ Sought at lo (now (work .entry)) (now (work .exit)) r ⌝ }
     ensures { λ r. ⌜ ReadyAll at (now (work .exit)) ⌝ }
 {
     if by_nodes {
-        return seek::seek_by_nodes(work, at, lo);
+        return seek::seek_by_nodes(work, at, lo, end);
     }
     triples::seek_by_triples(work, at, by, lo)
 }

@@ -1,16 +1,20 @@
 -- The faces of a cell, in turn.
 use Prim.Native.Nat.{ℕ, suc, _+_, _-_, _≤_, _<_}
 use mathlib.Core.Path.{_≡_, refl, sym, ap, ap₂, _∙_, subst}
+use mathlib.Core.Logic.{⊎-elim}
 use mathlib.Core.List.{List, [], _∷_, _++_, append-nil}
 use native.Mathlib.Omega.{arith}
 use lib.ListN.{getD, getD-replicate}
 use Rattle.laws.specs.Lists.{each, upFrom}
 use Rattle.laws.proofs.ListLaws.{each-append, upFrom-snoc}
 use Rattle.laws.proofs.Stores.{getD-region}
+use Rattle.laws.proofs.Tests.{split}
 use Rattle.findings.specs.Findings.{Rules}
 use Rattle.index.specs.Faces.{input}
+use Rattle.seek.specs.Steps.{Hidden}
+use Rattle.seek.proofs.Condition.{not-later, own-cell}
 use Rattle.layout.specs.declared.Layout.{Layout}
-use Rattle.layout.specs.Tables.{firstOf, Standing}
+use Rattle.layout.specs.Tables.{firstOf, Faced, Standing}
 use Rattle.partially_shared.specs.declared.Range.{Range}
 use Rattle.partially_shared.specs.Listing.{Listed}
 use Rattle.partially_shared.specs.Hits.{faceHits, cellHits, hitOf, Marked, MarkedMore, Searching, Beside}
@@ -80,3 +84,11 @@ pub facing-end : (R : Rules) (l : Layout) (w v : List ℕ) (s : Range) (c a f : 
 unfolding cellHits
 facing-end R l w v s c a f e g p =
     subst (λ (H : List (ℕ × ℕ)). Marked l (input (l .at) w) H v s) (ap₂ (λ (x y : ℕ). each (faceHits R l (input (l .at) w)) (upFrom x (y - x))) e g) (p .marked)
+
+-- no face before the next cell's first is a candidate of a face of the cell
+pub hidden-cell : (l : Layout) (t : List ℕ) (c f end : ℕ) → Faced l t → c < l .at .«cell_count» → firstOf l t c ≤ f → f < end → end ≡ firstOf l t (c + 1) → Hidden (l .at) t f end
+hidden-cell l t c f end faced low a b e h k =
+    ⊎-elim
+    (λ o. own-cell (l .at) t f h (faced .owned c f low a (omega (arith, b, e)) ∙ sym (faced .owned c h low (omega (arith, a, o)) (omega (arith, k, e)))))
+    (λ o. not-later (l .at) t f h o)
+    (split f h)

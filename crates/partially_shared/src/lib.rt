@@ -10,6 +10,7 @@ ghost use Rattle.laws.specs.Merging.{region};
 ghost use Rattle.geometry.specs.Coordinates.{nodeCount};
 ghost use Rattle.index.specs.Faces.{input, base};
 ghost use Rattle.seek.specs.Candidates.{candidates};
+ghost use Rattle.seek.specs.Steps.{Hidden};
 ghost use Rattle.triple_keys.specs.Keys.{Keyed};
 ghost use Rattle.records.specs.Keeping.{Kept};
 ghost use Rattle.layout.specs.Tables.{Spaced, Standing, Still};
@@ -142,7 +143,7 @@ fn note_found(
     s
 }
 
-// Face f: its candidates are sought, one of the two ways, and noted.
+// Face f: its candidates, of which none is before `end`, are sought, one of the two ways, and noted.
 fn note_face(
     coords: &[f64],
     tol: f64,
@@ -150,16 +151,18 @@ fn note_face(
     l: layout::Layout,
     by: index::Places,
     f: usize,
+    end: usize,
     by_nodes: bool,
     r: Range,
 ) -> Range
     requires { ⌜ Searching l (now work) ⌝ }
     requires { ⌜ (f < l .at .faces) × (l .at .nodes ≡ nodeCount (now coords)) × (r .hi ≤ l .at .«cell_count») × Keyed (l .at) by (base (l .at) (now work)) ⌝ }
+    requires { ⌜ (end ≤ l .at .faces) × Hidden (l .at) (input (l .at) (now work)) f end ⌝ }
     ensures { λ s. ⌜ MarkedMore l (input (l .at) (now (work .entry))) (faceHits (plainRules (now (coords .entry)) tol) l (input (l .at) (now (work .entry))) f) (now (work .entry)) (now (work .exit)) r s ⌝ }
     ensures { λ s. ⌜ Beside (l .at .found) l (now (work .entry)) (now (work .exit)) × (s .hi ≤ l .at .«cell_count») ⌝ }
 {
     let at = l.at;
-    let n = pairs::candidates_of(work, at, by, f, by_nodes);
+    let n = pairs::candidates_of(work, at, by, f, end, by_nodes);
     note_found(coords, tol, work, l, f, n, r)
 }
 
@@ -187,7 +190,7 @@ fn note_cell(
     };
     let mut f = layout::first_face(work, l, c);
     while f < end {
-        s = note_face(coords, tol, work, l, by, f, by_nodes, s);
+        s = note_face(coords, tol, work, l, by, f, end, by_nodes, s);
         f += 1;
     }
     s

@@ -4,3 +4,4 @@ pub mod Condition
 pub mod Read
 pub mod Searching
 pub mod Merging
+pub mod Skipping

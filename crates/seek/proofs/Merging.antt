@@ -80,7 +80,7 @@ count-places s q (x ∷ l) o f = go (count-places s q l (suc o) (λ i b. let e :
     go ih (inr a) = rw (s-is, a) ih
 
 -- every number is at least 0
-keep-all : (l : List ℕ) → keep (leb 0) l ≡ l
+pub keep-all : (l : List ℕ) → keep (leb 0) l ≡ l
 keep-all [] = refl
 keep-all (x ∷ l) = rw (leb·zero x) (ap (λ (r : List ℕ). x ∷ r) (keep-all l))
 

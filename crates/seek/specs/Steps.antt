@@ -1,13 +1,14 @@
--- What the searches hold between their steps. Only contracts of functions that are not public cite these.
-use Prim.Native.Nat.{ℕ, _<_}
-use mathlib.Core.Bool.{Bool, not, _&&_}
+-- What the searches hold between their steps. Only internal contracts cite these.
+use Prim.Native.Nat.{ℕ, _≤_, _<_}
+use mathlib.Core.Bool.{Bool, false, not, _&&_}
 use mathlib.Core.List.{List, [], _∷_}
 use mathlib.Core.Path.{_≡_}
 use lib.Dec.{leb, ltb, eqb}
 use lib.ListN.{length, getD}
 use Rattle.laws.specs.Lists.{onlyIf, keep, upFrom, eql}
+use Rattle.laws.proofs.Ascending.{Asc}
 use Rattle.index.specs.declared.Places.{Places}
-use Rattle.index.specs.Faces.{input, cellOf, bowOf, nodesOf, facesWith}
+use Rattle.index.specs.Faces.{input, base, cellOf, bowOf, nodesOf, facesWith}
 use Rattle.merge.specs.Runs.{rest, Ends}
 use Rattle.seek.specs.Candidates.{shares}
 
@@ -25,6 +26,30 @@ pub record Runs (p : Places) (b : List ℕ) (lo k g : ℕ) (from to : List ℕ) 
   pub wide : length from ≡ 64
   pub ends : Ends k to b
   pub run : (i : ℕ) → i < k → rest (getD from i 0) (getD to i 0) b ≡ keep (leb g) (facesWith p (input p b) (getD (nodesOf p (input p b) lo) i 0))
+
+-- no face before `end` is a candidate of lo
+abbrev pub Hidden : Places → List ℕ → ℕ → ℕ → Type 0
+Hidden p t lo end = (h : ℕ) → h < end → shares p t lo h ≡ false
+
+-- a run ascends
+abbrev pub Rising : ℕ → ℕ → List ℕ → Type 0
+Rising x e b = Asc (rest x e b)
+
+-- each of k runs does
+abbrev pub AllRising : ℕ → List ℕ → List ℕ → List ℕ → Type 0
+AllRising k b from to = (i : ℕ) → i < k → Rising (getD from i 0) (getD to i 0) b
+
+-- from became onto: each of k runs goes on to its first number that is not below g
+pub record Passed (k g : ℕ) (b from onto to : List ℕ) : Type 0 where
+  pub wide : length onto ≡ length from
+  pub run : (i : ℕ) → i < k → rest (getD onto i 0) (getD to i 0) b ≡ keep (leb g) (rest (getD from i 0) (getD to i 0) b)
+
+-- the runs stand at some face, and none before it is a candidate
+pub record Begun (p : Places) (w : List ℕ) (lo k : ℕ) (from to : List ℕ) : Type 0 where
+  pub first : ℕ
+  pub top : first ≤ p .faces
+  pub hidden : Hidden p (input p w) lo first
+  pub runs : Runs p (base p w) lo k first from to
 
 -- g where it is a candidate
 abbrev pub one : Places → List ℕ → ℕ → ℕ → List ℕ

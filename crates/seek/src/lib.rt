@@ -1,14 +1,16 @@
 // Candidates of a face, by common nodes.
 ghost use mathlib.Core.Path.{_≡_};
 ghost use mathlib.Core.List.{[], _∷_, map};
-ghost use Prim.Native.Nat.{_+_, _<_, _^_};
+ghost use Prim.Native.Nat.{_+_, _≤_, _<_, _^_};
+ghost use lib.Dec.{leb};
 ghost use lib.ListN.{length};
 ghost use lib.Seq.{sets};
-ghost use Rattle.laws.specs.Lists.{onlyIf, eql};
+ghost use Rattle.laws.specs.Lists.{onlyIf, keep, eql};
 ghost use Rattle.counting.specs.Counts.{below};
 ghost use Rattle.index.specs.Faces.{input, base, cellOf, bowOf, startOf, nodesOf, wordsOf, Indexed};
+ghost use Rattle.merge.specs.Runs.{rest, Ends};
 ghost use Rattle.seek.specs.Candidates.{common, shares, Ready, Sought};
-ghost use Rattle.seek.specs.Steps.{Runs, one, apart};
+ghost use Rattle.seek.specs.Steps.{Runs, Hidden, Rising, AllRising, Passed, Begun, one, apart};
 
 // Where the node set of face g starts, and how many nodes it has.
 pub fn set_start(base: &[u32], at: index::Places, g: usize) -> usize
@@ -159,7 +161,7 @@ fn merge_runs(
     to: &[usize; 64],
 ) -> usize
     requires { ⌜ Ready at lo (now work) ⌝ }
-    requires { ⌜ Runs at (base at (now work)) lo k 0 (now from) (now to) ⌝ }
+    requires { ⌜ Begun at (now work) lo k (now from) (now to) ⌝ }
     ensures { λ r. ⌜ Sought at lo (now (work .entry)) (now (work .exit)) r ⌝ }
 {
     let found = at.found;
@@ -172,10 +174,39 @@ fn merge_runs(
     n
 }
 
+// Where the ascending run from x to e has its first number that is not below `end`.
+fn skip_run(base: &[u32], x: usize, e: usize, end: usize) -> usize
+    requires { ⌜ (e ≤ length (now base)) × Rising x e (now base) ⌝ }
+    ensures { λ r. ⌜ rest r e (now (base .entry)) ≡ keep (leb end) (rest x e (now (base .entry))) ⌝ }
+{
+    let mut i = x;
+    while i < e {
+        if end <= counting::wide(base[i]) {
+            return i;
+        }
+        i += 1;
+    }
+    i
+}
+
+// Each of k ascending runs goes on to its first number that is not below `end`.
+fn skip_runs(base: &[u32], k: usize, from: &mut [usize; 64], to: &[usize; 64], end: usize)
+    requires { ⌜ Ends k (now to) (now base) ⌝ }
+    requires { ⌜ (length (now from) ≡ 64) × AllRising k (now base) (now from) (now to) ⌝ }
+    ensures { λ _. ⌜ Passed k end (now (base .entry)) (now (from .entry)) (now (from .exit)) (now (to .entry)) ⌝ }
+{
+    let mut i = 0;
+    while i < k {
+        from[i] = skip_run(base, from[i], to[i], end);
+        i += 1;
+    }
+}
+
 // By common nodes: a merge of the lists of lo's nodes, in which a face comes as often as it has one of them.
-// None where lo's cell is a bow-tie.
-pub fn seek_by_nodes(work: &mut [u32], at: index::Places, lo: usize) -> usize
+// It begins at face `end`, before which none is a candidate. None where lo's cell is a bow-tie.
+pub fn seek_by_nodes(work: &mut [u32], at: index::Places, lo: usize, end: usize) -> usize
     requires { ⌜ Ready at lo (now work) ⌝ }
+    requires { ⌜ (end ≤ at .faces) × Hidden at (input at (now work)) lo end ⌝ }
     ensures { λ r. ⌜ Sought at lo (now (work .entry)) (now (work .exit)) r ⌝ }
 {
     let found = at.found;
@@ -185,5 +216,6 @@ pub fn seek_by_nodes(work: &mut [u32], at: index::Places, lo: usize) -> usize
     let mut from = [0usize; 64];
     let mut to = [0usize; 64];
     let k = open_runs(&work[..found], at, lo, &mut from, &mut to);
+    skip_runs(&work[..found], k, &mut from, &to, end);
     merge_runs(work, at, lo, k, &mut from, &to)
 }

@@ -14,7 +14,7 @@ returns : tie.Need-returns
 returns c =
     let a = c .before .before .before .before .before .before .args in
     let f = c .before .before .seek-by-nodes in
-    (f .ensures, ready-again (a .at) (a .lo) (f .result) (a .work .now) (f .last .0) (c .before .before .before .before .before .before .pre .0) (f .ensures))
+    (f .ensures, ready-again (a .at) (a .lo) (f .result) (a .work .now) (f .last .0) (c .before .before .before .before .before .before .pre .0 .0) (f .ensures))
 
 seek-by-triples-requires : tie.Need-seek-by-triples-requires
 seek-by-triples-requires c κs = search needs
@@ -26,7 +26,7 @@ returns-2 : tie.Need-returns-2
 returns-2 c =
     let a = c .before .before .before .before .before .before .args in
     let f = c .before .before .seek-by-triples in
-    (f .ensures, ready-again (a .at) (a .lo) (f .result) (a .work .now) (f .last .0) (c .before .before .before .before .before .before .pre .0) (f .ensures))
+    (f .ensures, ready-again (a .at) (a .lo) (f .result) (a .work .now) (f .last .0) (c .before .before .before .before .before .before .pre .0 .0) (f .ensures))
 
 pub candidates-of-spec : {M : Type 1} → statement M
 candidates-of-spec =

@@ -1,15 +1,17 @@
 -- `partially_shared::note_cell` meets its contract.
-use Prim.Native.Nat.{_+_, _-_, _≤_}
+use Prim.Native.Nat.{ℕ, _+_, _-_, _≤_}
 use mathlib.Core.Path.{_≡_, refl, sym, subst}
+use mathlib.Core.List.{List}
 use native.Mathlib.Omega.{arith}
 use borrow.Author.Needs.{needs}
 use lib.ListN.{length}
 use Rattle.index.specs.Faces.{input}
+use Rattle.seek.specs.Steps.{Hidden}
 use Rattle.triple_keys.specs.Keys.{Keyed}
 use Rattle.layout.specs.Tables.{firstOf}
 use Rattle.layout.specs.ByCell.{plainRules}
-use Rattle.partially_shared.proofs.Searched.{searches}
-use Rattle.partially_shared.proofs.CellSearch.{Facing, facing-start, facing-next, facing-end}
+use Rattle.partially_shared.proofs.Searched.{input-on, searches}
+use Rattle.partially_shared.proofs.CellSearch.{Facing, facing-start, facing-next, facing-end, hidden-cell}
 use Rattle.partially_shared.proofs.note_cell.Statement.{statement}
 use Rattle.partially_shared.proofs.note_cell.Tie as tie
 
@@ -37,8 +39,20 @@ loop-holds c =
 note-face-requires : tie.Need-note-face-requires Inv-loop μ-loop
 note-face-requires c κs =
     let b = c .before .before .before .before .before .before .before .before .before .before in
+    let a = b .args in
     let o = c .before .before .loop in
-    (o .inv .0 .search, (omega (arith, c .before .loop-test .taken, c .before .before .before .before .before .first-face .ensures .1), b .pre .1 .1, o .inv .0 .high, subst (Keyed (b .args .l .at) (b .args .by)) (sym (o .inv .0 .beside .before)) (b .pre .1 .2)))
+    let y = c .before .before .before .before .before .first-face in
+    let low = c .before .loop-test .taken in (
+      o .inv .0 .search,
+      (
+        (omega (arith, low, y .ensures .1), b .pre .1 .1, o .inv .0 .high, subst (Keyed (a .l .at) (a .by)) (sym (o .inv .0 .beside .before)) (b .pre .1 .2)),
+        (
+          y .ensures .1,
+          subst (λ (t : List ℕ). Hidden (a .l .at) t (o .f) (y .result)) (sym (input-on (a .l) (a .work .now) (o .work) (searches (a .l) (a .work .now) (b .pre .0)) (o .inv .0 .beside)))
+              (hidden-cell (a .l) (input (a .l .at) (a .work .now)) (a .c) (o .f) (y .result) (b .pre .0 .faced) (b .pre .1 .0) (omega (arith, c .before .before .before .first-face2 .ensures .0, o .inv .2)) low (y .ensures .0)),
+        ),
+      ),
+    )
 
 add-f : tie.Need-add-f Inv-loop μ-loop
 add-f c = search needs

@@ -9,7 +9,7 @@ use Rattle.partially_shared.proofs.note_face.Tie as tie
 candidates-of-requires : tie.Need-candidates-of-requires
 candidates-of-requires c κs =
     let b = c .before .before .before .before in
-    (face-ready (b .args .l) (b .args .work .now) (b .args .f) (b .pre .0) (b .pre .1 .0), b .pre .1 .3)
+    ((face-ready (b .args .l) (b .args .work .now) (b .args .f) (b .pre .0) (b .pre .1 .0 .0), b .pre .1 .0 .3), b .pre .1 .1)
 
 note-found-requires : tie.Need-note-found-requires
 note-found-requires c κs =
@@ -18,7 +18,7 @@ note-found-requires c κs =
     let y = c .before .before .before .candidates-of in
     let s = b .pre .0 in (
       searching-on (a .l) (a .work .now) (y .last .0) s (sought-beside (a .l) (a .work .now) (y .last .0) (a .f) (y .result) s (y .ensures .0)),
-      (b .pre .1 .0, b .pre .1 .1, b .pre .1 .2, sought-number (a .l) (a .work .now) (y .last .0) (a .f) (y .result) s (y .ensures .0), sought-there (a .l) (a .work .now) (y .last .0) (a .f) (y .result) s (y .ensures .0)),
+      (b .pre .1 .0 .0, b .pre .1 .0 .1, b .pre .1 .0 .2, sought-number (a .l) (a .work .now) (y .last .0) (a .f) (y .result) s (y .ensures .0), sought-there (a .l) (a .work .now) (y .last .0) (a .f) (y .result) s (y .ensures .0)),
     )
 
 same-length : tie.Need-same-length

@@ -1,6 +1,6 @@
 -- `seek::merge_runs` meets its contract. `Held`: the candidates below g are noted, and the runs stand at g. `took` takes g, `moved-on` goes to the next lowest.
 use Prim.Native.Nat.{ℕ, _+_, _-_, _≤_, _<_}
-use mathlib.Core.Path.{_≡_, refl, sym, ap, ap₂, _∙_, subst}
+use mathlib.Core.Path.{_≡_, sym, ap, ap₂, _∙_, subst}
 use mathlib.Core.List.{List, [], _∷_, _++_, append-nil}
 use native.Mathlib.Omega.{arith}
 use native.Mathlib.Numerals.{add-one}
@@ -15,9 +15,10 @@ use Rattle.laws.proofs.ListLaws.{keep-append, upFrom-snoc}
 use Rattle.index.specs.declared.Places.{Places}
 use Rattle.index.specs.Faces.{input, base}
 use Rattle.merge.specs.Runs.{Ends, Lowest}
-use Rattle.seek.specs.Steps.{Runs, one, upTo}
+use Rattle.seek.specs.Steps.{Runs, Begun, one, upTo}
 use Rattle.seek.specs.Candidates.{shares, candidates, Ready}
 use Rattle.seek.proofs.Merging.{no-lower, skipped, lowered}
+use Rattle.seek.proofs.Skipping.{none-before}
 use Rattle.seek.proofs.Searching.{base-same, input-base, input-same, ready-same, upTo-length}
 use Rattle.seek.proofs.merge_runs.Statement.{statement}
 use Rattle.seek.proofs.merge_runs.Tie as tie
@@ -65,8 +66,10 @@ took p w lo k g n from to v ready held h r from′ v′ a b c =
     }
 
 -- nothing is noted at the start
-begin : (p : Places) (w : List ℕ) (lo k : ℕ) (from to : List ℕ) → Runs p (base p w) lo k 0 from to → Held p w lo k 0 0 from to w
-begin p w lo k from to r = record { top = omega arith; work = refl; number = refl; runs = r }
+begin : (p : Places) (w : List ℕ) (lo k : ℕ) (from to : List ℕ) → (b : Begun p w lo k from to) → Held p w lo k (b .first) 0 from to w
+begin p w lo k from to b =
+    let e = none-before p (input p w) lo (b .first) (b .hidden) in
+    record { top = b .top; work = ap (sets w (p .found)) e; number = ap length e; runs = b .runs }
 
 -- the length stays
 longer : (p : Places) (w : List ℕ) (lo k g n : ℕ) (from to v : List ℕ) → Ready p lo w → Held p w lo k g n from to v → p .found ≤ length v
@@ -102,12 +105,12 @@ slice-aggregate-lowest : tie.Need-slice-aggregate-lowest Inv-loop μ-loop
 slice-aggregate-lowest c = let a = c .before .before .args in sym (length-take-le (a .at .found) (a .work .now) (omega (arith, c .before .before .pre .0 .room)))
 
 lowest-requires : tie.Need-lowest-requires Inv-loop μ-loop
-lowest-requires c κs = c .before .before .before .pre .1 .ends
+lowest-requires c κs = c .before .before .before .pre .1 .runs .ends
 
 loop-holds : tie.Need-loop-holds Inv-loop μ-loop
 loop-holds c =
     let a = c .before .before .before .before .args in
-    moved-on (a .at) (a .work .now) (a .lo) (a .k) 0 0 (a .from .now) (a .to .now) (a .work .now) (c .before .before .before .before .pre .0) (begin (a .at) (a .work .now) (a .lo) (a .k) (a .from .now) (a .to .now) (c .before .before .before .before .pre .1)) (c .lowest .result) (c .lowest .ensures) .1
+    moved-on (a .at) (a .work .now) (a .lo) (a .k) (c .before .before .before .before .pre .1 .first) 0 (a .from .now) (a .to .now) (a .work .now) (c .before .before .before .before .pre .0) (begin (a .at) (a .work .now) (a .lo) (a .k) (a .from .now) (a .to .now) (c .before .before .before .before .pre .1)) (c .lowest .result) (c .lowest .ensures) .1
 
 take-face-requires : tie.Need-take-face-requires Inv-loop μ-loop
 take-face-requires c κs =
