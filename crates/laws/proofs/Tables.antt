@@ -1,11 +1,13 @@
 -- Tables of refusals: where no reason holds nothing is refused, and back; one table after the other.
 use Prim.Native.Nat.{ℕ}
-use mathlib.Core.Path.{_≡_, refl}
+use mathlib.Core.Path.{_≡_, refl, sym, ap, _∙_}
 use mathlib.Core.Logic.{_⊎_, inl, inr, _≢_}
-use mathlib.Core.Bool.{Bool, true, false}
+use mathlib.Core.Bool.{Bool, true, false, cond}
 use mathlib.Core.List.{List, [], _∷_, _++_}
+use borrow.Author.Tests.{ne-eqb}
+use lib.ListN.{length, drop}
 use Rattle.laws.specs.Lists.{any}
-use Rattle.laws.specs.Refusals.{refusal}
+use Rattle.laws.specs.Refusals.{refusal, filled}
 use Rattle.laws.proofs.Tests.{tested, or-none}
 
 -- a row's reason
@@ -52,3 +54,7 @@ refusal-first (row ∷ rows) b n = go (tested (row .1)) (λ m. refusal-first row
 -- where it does not, the second's does
 pub refusal-second : (a b : List (ℕ × Bool)) → Numbered a → refusal a ≡ 0 → refusal (a ++ b) ≡ refusal b
 refusal-second a b n z = clear-append a b (refusal-clear a n z)
+
+-- a list that a refusal leaves as it was
+pub unfilled : {A : Type 0} (n m : ℕ) (xs l : List A) → n ≡ m → m ≢ 0 → l ≡ filled n xs l
+unfilled n m xs l h p = sym (ap (λ (k : ℕ). filled k xs l) h ∙ ap (λ (b : Bool). cond b (xs ++ drop (length xs) l) l) (ne-eqb m 0 p))

@@ -7,10 +7,17 @@ use native.Mathlib.Omega.{arith}
 use lib.Dec.{eqb, leb}
 use borrow.Author.Tests.{eqb-true, leb-true}
 use Rattle.laws.proofs.Tests.{and-parts, clash}
+use Rattle.laws.proofs.Tables.{Numbered}
 use Rattle.model_file.specs.Records.{letter, count, stage, misplaced, wordsRight, recordOff}
+use Rattle.model_file.specs.File.{recordsTable}
 use Rattle.model_file.specs.Steps.{judge}
 use Rattle.model_file.specs.declared.Letter.{Letter}
 use Rattle.model_file.specs.declared.Letter.the-variants.{Node, Cell, More, Last, Other}
+
+-- every number of the records' table is a refusal's
+pub records-numbered : (s : ℕ) (rs : List (List ℕ)) → Numbered (recordsTable s rs)
+records-numbered s [] = (λ e. omega arith, tt)
+records-numbered s (r ∷ rs) = (λ e. omega arith, (λ e. omega arith, records-numbered (stage (letter r) r) rs))
 
 -- the first record passes, and so do the rest
 pub record Passed (s : ℕ) (r : List ℕ) (rs : List (List ℕ)) (l : Letter) : Type 0 where

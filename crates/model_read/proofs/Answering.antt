@@ -13,9 +13,10 @@ use lib.Ieee.{Float}
 use borrow.Author.Tests.{eqb-true, eqb-false, ltb-false, ne-eqb, not-false}
 use Rattle.laws.specs.Limits.{recordLimit}
 use Rattle.laws.specs.Refusals.{refusal, answer, filled, refused, done}
-use Rattle.laws.proofs.Tables.{Numbered, refusal-first, refusal-second}
+use Rattle.laws.proofs.Tables.{refusal-first, refusal-second, unfilled}
+use Rattle.model_file.proofs.Judgement.{records-numbered}
 use Rattle.laws.proofs.Tests.{or-none}
-use Rattle.model_file.specs.Records.{letter, floatAt, byte1, capIn, stage}
+use Rattle.model_file.specs.Records.{floatAt, byte1, capIn}
 use Rattle.model_file.specs.File.{chop, records, lastOf, coordsOf, kindsOf, wordsOf, endsOf, decode, lengthOff, recordsTable}
 use Rattle.model_file.specs.Reading.{roomOff, readRefusal, foundIn, Reading}
 use Rattle.model_file.specs.Steps.{judge}
@@ -71,11 +72,6 @@ length-whole s h =
 
 -- ---- refusals
 
--- every number of the records' table is a refusal's
-records-numbered : (s : ℕ) (rs : List (List ℕ)) → Numbered (recordsTable s rs)
-records-numbered s [] = (λ e. omega arith, tt)
-records-numbered s (r ∷ rs) = (λ e. omega arith, (λ e. omega arith, records-numbered (stage (letter r) r) rs))
-
 module _ (s : List ℕ) (coords : List Float) (kinds ends words : List ℕ) where
   -- 4, the last row
   abbrev four : List (ℕ × Bool)
@@ -130,10 +126,6 @@ module _ (s : List ℕ) (coords : List Float) (kinds ends words : List ℕ) wher
           }
 
 -- ---- the whole contract
-
--- a list that is as it was, after a refusal
-unfilled : {A : Type 0} (n m : ℕ) (xs l : List A) → n ≡ m → m ≢ 0 → l ≡ filled n xs l
-unfilled n m xs l h p = sym (ap (λ (k : ℕ). filled k xs l) h ∙ ap (λ (b : Bool). cond b (xs ++ drop (length xs) l) l) (ne-eqb m 0 p))
 
 -- a list whose front is filled
 front-filled : {A : Type 0} (n : ℕ) (xs l l' : List A) → n ≡ 0 → length xs ≤ length l → l' ≡ sets l 0 xs → l' ≡ filled n xs l

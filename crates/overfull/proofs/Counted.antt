@@ -11,7 +11,7 @@ use Rattle.laws.specs.Lists.{onlyIf, any, keep, elem}
 use Rattle.laws.proofs.Tests.{tested}
 use Rattle.laws.proofs.Ascending.{head-in, later-in}
 use Rattle.merge.specs.Runs.{rest}
-use Rattle.triples.proofs.Turns.{rest-cons}
+use Rattle.merge.proofs.RunLaws.{rest-cons}
 use Rattle.overfull.specs.declared.Tally.{Tally}
 use Rattle.overfull.specs.Alike.{start, noted, tallied}
 

@@ -12,12 +12,12 @@ use lib.ListN.{length, take, drop, replicate, length-append}
 use lib.Seq.{take-at}
 use Rattle.laws.specs.Limits.{inputLimit, programWork}
 use Rattle.laws.specs.Refusals.{refusal, filled}
-use Rattle.laws.proofs.Tables.{Numbered, refusal-first, refusal-second}
+use Rattle.laws.proofs.Tables.{Numbered, refusal-first, refusal-second, unfilled}
+use Rattle.model_file.proofs.Judgement.{records-numbered}
 use Rattle.laws.proofs.Tests.{tested}
 use Rattle.mesh.specs.Model.{Model, modelOf}
 use Rattle.mesh.specs.Acceptance.{checkTable, workNeeded}
-use Rattle.model_file.specs.Records.{letter, stage}
-use Rattle.model_file.specs.File.{records, recordsTable, fileTable, decode, lengthOff}
+use Rattle.model_file.specs.File.{records, fileTable, decode, lengthOff}
 use Rattle.model_file.specs.Reading.{roomOff, readRefusal, foundIn, readTold, Reading}
 use Rattle.model_file.specs.Steps.{judge}
 use Rattle.model_file.specs.declared.Found.{Found}
@@ -34,12 +34,7 @@ use Rattle.program.proofs.Sizes.{threes, room}
 
 -- ---- the tables
 
--- every number of the records' table is a refusal's
-records-numbered : (s : ℕ) (rs : List (List ℕ)) → Numbered (recordsTable s rs)
-records-numbered s [] = (λ e. omega arith, tt)
-records-numbered s (r ∷ rs) = (λ e. omega arith, (λ e. omega arith, records-numbered (stage (letter r) r) rs))
-
--- and of a file's
+-- every number of a file's table is a refusal's
 file-numbered : (s : List ℕ) → Numbered (fileTable s)
 file-numbered s = (λ e. omega arith, records-numbered 0 (records s))
 
@@ -75,10 +70,6 @@ program-short : (s : List ℕ) → length s ≤ inputLimit → programRefusal s 
 program-short s h = ap (λ (b : Bool). cond b 1 (refusal (fileTable s ++ checkTable (decode s) programWork))) (le-ltb inputLimit (length s) h)
 
 -- ---- refusals
-
--- a list that is as it was, after a refusal
-unfilled : {A : Type 0} (n k : ℕ) (xs l : List A) → n ≡ k → k ≢ 0 → l ≡ filled n xs l
-unfilled n k xs l e z = sym (ap (λ (m : ℕ). filled m xs l) e ∙ ap (λ (b : Bool). cond b (xs ++ drop (length xs) l) l) (ne-eqb k 0 z))
 
 -- the output of a refusal
 output-refused : (s : List ℕ) (k : ℕ) → programRefusal s ≡ k → k ≢ 0 → refusedLine k ≡ output s

@@ -1,21 +1,21 @@
 -- Ascending runs go on to their first numbers that are not below g.
-use Prim.Native.Nat.{ℕ, suc, _+_, _-_, _≤_, _<_}
-use mathlib.Core.Path.{_≡_, refl, sym, ap, ap₂, _∙_, subst}
+use Prim.Native.Nat.{ℕ, _+_, _-_, _≤_, _<_}
+use mathlib.Core.Path.{_≡_, refl, sym, ap, _∙_, subst}
 use mathlib.Core.Bool.{true}
-use mathlib.Core.List.{List, [], _∷_}
+use mathlib.Core.List.{List, []}
 use native.Mathlib.Omega.{arith}
-use native.Mathlib.Numerals.{add-one}
 use native.Mathlib.Nat.{zero-add}
 use borrow.Author.Count.{below-more}
 use borrow.Author.Tests.{le-leb, lt-leb}
 use lib.Dec.{leb, leb·zero}
-use lib.ListN.{length, getD, take, drop, set, length-set}
-use lib.Seq.{drop-cons, getD-set-same, getD-set-other}
+use lib.ListN.{length, getD, set, length-set}
+use lib.Seq.{getD-set-same, getD-set-other}
 use Rattle.laws.specs.Lists.{keep, elem}
 use Rattle.laws.proofs.Ascending.{Asc, asc-keep, keep-cong, keep-skip, first-low}
 use Rattle.index.specs.declared.Places.{Places}
 use Rattle.index.specs.Faces.{input, nodesOf, facesWith}
 use Rattle.merge.specs.Runs.{rest}
+use Rattle.merge.proofs.RunLaws.{rest-cons, rest-none}
 use Rattle.seek.specs.Candidates.{shares}
 use Rattle.seek.specs.Steps.{Runs, Hidden, Rising, AllRising, Passed, upTo}
 use Rattle.seek.proofs.Merging.{keep-all, asc-faces}
@@ -25,16 +25,6 @@ use Rattle.seek.proofs.Merging.{keep-all, asc-faces}
 -- numbers that are all at least g are all kept
 keep-high : (g : ℕ) (l : List ℕ) → ((n : ℕ) → elem n l ≡ true → g ≤ n) → keep (leb g) l ≡ l
 keep-high g l h = keep-cong (leb g) (leb 0) l (λ n e. le-leb g n (h n e) ∙ sym (leb·zero n)) ∙ keep-all l
-
--- a run begins with the word at its place
-rest-cons : (i e : ℕ) (b : List ℕ) → i < e → e ≤ length b → rest i e b ≡ getD b i 0 ∷ rest (i + 1) e b
-rest-cons i e b h k =
-    let s : e - i ≡ suc (e - (i + 1)) = omega arith in
-    ap₂ (λ (m : ℕ) (l : List ℕ). take m l) s (drop-cons b i 0 (omega arith) ∙ ap (λ (j : ℕ). getD b i 0 ∷ drop j b) (sym (add-one i)))
-
--- nothing is left of it at its end
-rest-none : (i e : ℕ) (b : List ℕ) → e ≤ i → rest i e b ≡ []
-rest-none i e b h = let s : e - i ≡ 0 = omega arith in ap (λ (m : ℕ). take m (drop i b)) s
 
 module _ (g i e : ℕ) (b : List ℕ) where
   -- a number below g is passed over

@@ -22,7 +22,7 @@ use Rattle.seek.specs.Steps.{early}
 use Rattle.seek.proofs.Condition.{shares-early}
 use Rattle.triples.specs.Hits.{hitsBy, addAll}
 use Rattle.triples.proofs.Adds.{elem-addAll, asc-addAll}
-use Rattle.triples.proofs.Turns.{rest-cons}
+use Rattle.merge.proofs.RunLaws.{rest-cons}
 
 -- ---- all but two of a list
 

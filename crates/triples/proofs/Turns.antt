@@ -1,16 +1,15 @@
 -- A loop over the words from s to e that adds a piece for each: G of the words is the pieces one after the other, F the piece of a word and
 -- those behind it.
-use Prim.Native.Nat.{ℕ, suc, _+_, _-_, _≤_, _<_}
-use mathlib.Core.Path.{_≡_, sym, ap, ap₂, _∙_, subst}
+use Prim.Native.Nat.{ℕ, _+_, _-_, _≤_, _<_}
+use mathlib.Core.Path.{_≡_, sym, ap, _∙_, subst}
 use mathlib.Core.Logic.{⊎-elim}
 use mathlib.Core.Bool.{Bool, true, false≢true}
 use mathlib.Core.List.{List, [], _∷_, _++_}
 use native.Mathlib.Omega.{arith}
-use native.Mathlib.Numerals.{add-one}
 use borrow.Author.Tests.{ltb-true}
 use lib.Dec.{leb, ltb, eqb}
-use lib.ListN.{length, getD, take, drop}
-use lib.Seq.{getD-take, drop-cons, length-take-le}
+use lib.ListN.{length, getD, drop}
+use lib.Seq.{getD-take, length-take-le}
 use Rattle.laws.specs.Lists.{each, keep, upFrom, elem}
 use Rattle.laws.proofs.ListLaws.{any-append}
 use Rattle.laws.proofs.Tests.{or-cases, and-parts}
@@ -19,20 +18,11 @@ use Rattle.laws.proofs.Ascending.{elem-keep, elem-upFrom}
 use Rattle.index.specs.declared.Places.{Places}
 use Rattle.index.specs.Faces.{input, base, nodesOf, facesWith}
 use Rattle.merge.specs.Runs.{rest}
+use Rattle.merge.proofs.RunLaws.{rest-cons, rest-none}
 use Rattle.seek.specs.Candidates.{shares}
 use Rattle.seek.proofs.Merging.{all-of}
 use Rattle.triples.specs.Hits.{hitsBy, Open, Added}
 use Rattle.triples.proofs.Adds.{Faces, Prog, prog-start, prog-open, prog-base, prog-length, prog-step, prog-end}
-
--- the words from i on begin with word i
-pub rest-cons : (i e : ℕ) (b : List ℕ) → i < e → e ≤ length b → rest i e b ≡ getD b i 0 ∷ rest (i + 1) e b
-rest-cons i e b h k =
-    let s : e - i ≡ suc (e - (i + 1)) = omega arith in
-    ap₂ (λ (m : ℕ) (l : List ℕ). take m l) s (drop-cons b i 0 (omega arith) ∙ ap (λ (j : ℕ). getD b i 0 ∷ drop j b) (sym (add-one i)))
-
--- none are left at the end
-rest-none : (i e : ℕ) (b : List ℕ) → e ≤ i → rest i e b ≡ []
-rest-none i e b h = let s : e - i ≡ 0 = omega arith in ap (λ (m : ℕ). take m (drop i b)) s
 
 -- ---- all that is added are faces
 
