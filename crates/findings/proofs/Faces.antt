@@ -1,13 +1,13 @@
 -- Faces of cells: their rings, their numbers, and overfull faces as one walk over all faces.
-use Prim.Native.Nat.{ℕ, zero, suc, _+_, _<_}
+use Prim.Native.Nat.{ℕ, suc, _+_, _<_}
 use mathlib.Core.Path.{_≡_, refl, sym, ap, _∙_}
 use mathlib.Core.List.{List, [], _∷_, _++_, map, append-nil, map-append}
-use native.Mathlib.Nat.{add-zero, zero-add, suc-add}
+use native.Mathlib.Nat.{zero-add}
 use native.Mathlib.Omega.{arith}
 use lib.ListN.{length, getD, take, length-append, List·getD-map}
 use lib.Seq.{getD-append-seam, take-at}
 use Rattle.laws.specs.Lists.{any, walk, upFrom}
-use Rattle.laws.proofs.ListLaws.{each-append, walk-append, any-map, any-ext, getD-upFrom}
+use Rattle.laws.proofs.ListLaws.{each-append, walk-append, any-map, any-ext, getD-upFrom, upFrom-append}
 use Rattle.mesh.specs.Model.{Raw}
 use Rattle.mesh.specs.Rings.{Cell, Face, facesFrom, facesOf, faces, numberFrom, numbered}
 use Rattle.mesh.specs.Lookup.{noFace, faceAt}
@@ -46,19 +46,13 @@ unfolding facesFrom
 nums-from c n [] = refl
 nums-from c n (r ∷ rs) = ap (λ (l : List ℕ). n ∷ l) (nums-from c (suc n) rs)
 
--- a numbers and then b more
-up-append : (n a b : ℕ) → upFrom n (a + b) ≡ upFrom n a ++ upFrom (n + a) b
-up-append n zero b = rw (zero-add b, add-zero n)
-up-append n (suc a) b =
-    rw (suc-add a b) (ap (λ (l : List ℕ). n ∷ l) (up-append (suc n) a b ∙ ap (λ k. upFrom (suc n) a ++ upFrom k b) (omega arith)))
-
 module _ (rings : Raw → List (List ℕ)) where
   -- the faces of numbered cells are numbered on from n
   nums-of : (i n : ℕ) (cs : List Raw) → map (λ f. f .num) (faces rings (numberFrom rings i n cs)) ≡ upFrom n (length (faces rings (numberFrom rings i n cs)))
   unfolding faces facesOf numberFrom
   nums-of i n [] = refl
   nums-of i n (c ∷ cs) =
-      simp (map-append, nums-from, length-append, length-from, nums-of (suc i) (n + length (rings c)) cs) (sym (up-append n (length (rings c)) _))
+      simp (map-append, nums-from, length-append, length-from, nums-of (suc i) (n + length (rings c)) cs) (sym (upFrom-append n (length (rings c)) _))
 
   -- a face's number, the face there, and how many come before it
   place : (cs : List Raw) (a : List Face) (f : Face) (b : List Face) → a ++ (f ∷ b) ≡ faces rings (numbered rings cs)

@@ -4,7 +4,7 @@ use mathlib.Core.Path.{_≡_, refl, sym, ap, ap₂, _∙_, fun-ext}
 use mathlib.Core.Logic.{_⊎_, inl, inr}
 use mathlib.Core.Bool.{Bool, true, false, _&&_, _||_, or-assoc, or-false, false≢true}
 use mathlib.Core.List.{List, [], _∷_, _++_, map, append-assoc, append-nil, map-append}
-use native.Mathlib.Nat.{add-zero, add-suc, suc-add}
+use native.Mathlib.Nat.{add-zero, zero-add, add-suc, suc-add}
 use native.Mathlib.Numerals.{add-one}
 use native.Mathlib.Omega.{arith}
 use lib.Dec.{eqb}
@@ -143,6 +143,12 @@ length-upFrom i (suc n) = ap suc (length-upFrom (suc i) n)
 pub upFrom-snoc : (i n : ℕ) → upFrom i (suc n) ≡ upFrom i n ++ ((i + n) ∷ [])
 upFrom-snoc i zero = ap (λ (k : ℕ). k ∷ []) (sym (add-zero i))
 upFrom-snoc i (suc n) = ap (λ (l : List ℕ). i ∷ l) (upFrom-snoc (suc i) n ∙ ap (λ (k : ℕ). upFrom (suc i) n ++ (k ∷ [])) (suc-add i n ∙ sym (add-suc i n)))
+
+pub upFrom-append : (i m n : ℕ) → upFrom i (m + n) ≡ upFrom i m ++ upFrom (i + m) n
+upFrom-append i zero n = ap₂ (λ (a b : ℕ). upFrom a b) (sym (add-zero i)) (zero-add n)
+upFrom-append i (suc m) n =
+    let f : suc i + m ≡ i + suc m = omega arith in
+    ap (upFrom i) (suc-add m n) ∙ ap (λ (r : List ℕ). i ∷ r) (upFrom-append (suc i) m n ∙ ap (λ (k : ℕ). upFrom (suc i) m ++ upFrom k n) f)
 
 pub getD-upFrom : (i n k d : ℕ) → k < n → getD (upFrom i n) k d ≡ i + k
 getD-upFrom i zero k d h = absurd (omega arith)

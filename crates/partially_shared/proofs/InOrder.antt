@@ -12,7 +12,7 @@ use lib.Seq.{drop-set-lt}
 use lib.Ieee.{Float}
 use Rattle.laws.specs.Lists.{each, upFrom}
 use Rattle.laws.proofs.Tests.{tested, split}
-use Rattle.laws.proofs.ListLaws.{each-append}
+use Rattle.laws.proofs.ListLaws.{each-append, upFrom-append}
 use Rattle.snap.proofs.Parts.{read-from}
 use Rattle.findings.specs.Findings.{Finding}
 use Rattle.index.specs.Faces.{input}
@@ -25,7 +25,7 @@ use Rattle.layout.specs.Kept.{KeptAny}
 use Rattle.partially_shared.specs.Listing.{Has, Rising, Listed}
 use Rattle.partially_shared.specs.Hits.{markTells, Searching}
 use Rattle.partially_shared.proofs.Cleared.{tells-none, Telling, telling-next}
-use Rattle.partially_shared.proofs.Whole.{upFrom-add, each-none}
+use Rattle.partially_shared.proofs.Whole.{each-none}
 
 -- a range with nothing behind it
 each-further : (h : ℕ → List Finding) (a b d : ℕ) → a ≤ b → b ≤ d → ((x : ℕ) → b ≤ x → x < d → h x ≡ []) → each h (upFrom a (b - a)) ≡ each h (upFrom a (d - a))
@@ -33,7 +33,7 @@ each-further h a b d p q none =
     let e : b - a + (d - b) ≡ d - a = omega (arith, p, q) in
     let j : a + (b - a) ≡ b = omega (arith, p) in
     sym (ap (λ (k : ℕ). each h (upFrom a k)) (sym e)
-    ∙ ap (each h) (upFrom-add a (b - a) (d - b))
+    ∙ ap (each h) (upFrom-append a (b - a) (d - b))
     ∙ each-append h (upFrom a (b - a)) (upFrom (a + (b - a)) (d - b))
     ∙ ap (λ (r : List Finding). each h (upFrom a (b - a)) ++ r) (each-none h (a + (b - a)) (d - b) (λ x y z. none x (omega (arith, y, j)) (omega (arith, z, j, q))))
     ∙ append-nil (each h (upFrom a (b - a))))

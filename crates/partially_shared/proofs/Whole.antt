@@ -5,13 +5,13 @@ use mathlib.Core.Logic.{_⊎_, inl, inr}
 use mathlib.Core.Bool.{Bool, true, false, not, _&&_}
 use mathlib.Core.List.{List, [], _∷_, _++_, map, append-nil}
 use native.Mathlib.Omega.{arith}
-use native.Mathlib.Nat.{add-zero, zero-add}
+use native.Mathlib.Nat.{zero-add}
 use borrow.Author.Tests.{ltb-true, eqb-true, eqb-false, ne-eqb, not-true}
 use lib.Dec.{ltb, eqb}
 use lib.ListN.{getD}
 use Rattle.laws.specs.Lists.{onlyIf, first, each, keep, upFrom}
 use Rattle.laws.proofs.Tests.{tested, and-parts, split}
-use Rattle.laws.proofs.ListLaws.{each-append, each-agree}
+use Rattle.laws.proofs.ListLaws.{each-append, each-agree, upFrom-append}
 use Rattle.findings.specs.Findings.{Rules, Finding, partly}
 use Rattle.index.specs.Faces.{cellOf, bowOf, nodesOf}
 use Rattle.seek.specs.Candidates.{common, sharing, shares, candidates}
@@ -77,13 +77,6 @@ map-all P f g (x ∷ l) h p = ap₂ (λ a r. a ∷ r) (h x (p .0)) (map-all P f 
 
 -- ---- ranges of numbers
 
-pub upFrom-add : (i m n : ℕ) → upFrom i (m + n) ≡ upFrom i m ++ upFrom (i + m) n
-upFrom-add i zero n = ap₂ (λ (a b : ℕ). upFrom a b) (sym (add-zero i)) (zero-add n)
-upFrom-add i (suc m) n =
-    let e : suc m + n ≡ suc (m + n) = omega arith in
-    let f : suc i + m ≡ i + suc m = omega arith in
-    ap (upFrom i) e ∙ ap (λ (r : List ℕ). i ∷ r) (upFrom-add (suc i) m n ∙ ap (λ (k : ℕ). upFrom (suc i) m ++ upFrom k n) f)
-
 module _ {B : Type 0} (h : ℕ → List B) where
   pub each-none : (a n : ℕ) → ((i : ℕ) → a ≤ i → i < a + n → h i ≡ []) → each h (upFrom a n) ≡ []
   each-none a zero p = refl
@@ -94,11 +87,11 @@ module _ {B : Type 0} (h : ℕ → List B) where
   each-window a n m le p =
       let e : m ≡ a + (n + (m - (a + n))) = omega (arith, le) in
       ap (λ (k : ℕ). each h (upFrom 0 k)) e
-      ∙ ap (each h) (upFrom-add 0 a (n + (m - (a + n))))
+      ∙ ap (each h) (upFrom-append 0 a (n + (m - (a + n))))
       ∙ each-append h (upFrom 0 a) (upFrom (0 + a) (n + (m - (a + n))))
       ∙ ap (λ (r : List B). r ++ each h (upFrom (0 + a) (n + (m - (a + n))))) (each-none 0 a (λ i x y. p i (omega (arith, y, le)) (inl (omega (arith, y)))))
       ∙ ap (λ (k : ℕ). each h (upFrom k (n + (m - (a + n))))) (zero-add a)
-      ∙ ap (each h) (upFrom-add a n (m - (a + n)))
+      ∙ ap (each h) (upFrom-append a n (m - (a + n)))
       ∙ each-append h (upFrom a n) (upFrom (a + n) (m - (a + n)))
       ∙ ap (λ (r : List B). each h (upFrom a n) ++ r) (each-none (a + n) (m - (a + n)) (λ i x y. p i (omega (arith, y, le)) (inr x)))
       ∙ append-nil (each h (upFrom a n))
