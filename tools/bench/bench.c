@@ -2,6 +2,7 @@
  *
  *   bench [MODEL]      a line for each model, or for that one, tolerance and cap: best of five calls, in milliseconds
  *   bench --write DIR  writes the models as files into DIR, to time another checker on the same ones
+ *   bench --file FILE  reads the file and writes it again, once, and compares: to count instructions
  *
  * Before each call the lent work and findings are filled with 170, and that is not timed. After it the answer, the total and the lent
  * memory are compared with what is promised; the driver ends with 1 where something differs. */
@@ -178,10 +179,29 @@ static int write_all(const char *dir) {
     return 0;
 }
 
+static int read_and_write(const char *path) {
+    static uint8_t bytes[RECORD / 2 * 131072], again[sizeof bytes];
+    uint64_t n = 0, c = 0, w = 0, size = 0;
+    double tolerance = 0;
+    uint8_t flags = 0;
+    uint16_t cap = 0;
+    FILE *f = fopen(path, "rb");
+    if (f == NULL) return perror(path), 2;
+    size_t length = fread(bytes, 1, sizeof bytes, f);
+    fclose(f);
+    uint32_t answer = lenoshale_read(bytes, length, coords, 3 * NODES, kinds, CELLS, ends, CELLS, words, WORDS, &n, &c, &w, &tolerance, &flags, &cap);
+    if (answer == 0) answer = lenoshale_write(coords, 3 * n, kinds, c, ends, c, words, w, tolerance, flags, cap, again, sizeof again, &size);
+    if (answer != 0) return printf("refused %u\n", answer), 1;
+    if (size != length || memcmp(bytes, again, length) != 0) return printf("WRONG: other bytes\n"), 1;
+    printf("%zu records read and written\n", length / (RECORD / 2));
+    return 0;
+}
+
 int main(int argc, char **argv) {
     if (argc == 1) return measure_all(NULL);
     if (argc == 2 && argv[1][0] != '-') return measure_all(argv[1]);
     if (argc == 3 && strcmp(argv[1], "--write") == 0) return write_all(argv[2]);
-    fprintf(stderr, "usage: bench [MODEL | --write DIR]\n");
+    if (argc == 3 && strcmp(argv[1], "--file") == 0) return read_and_write(argv[2]);
+    fprintf(stderr, "usage: bench [MODEL | --write DIR | --file FILE]\n");
     return 2;
 }
