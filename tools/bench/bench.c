@@ -17,7 +17,7 @@
 #include <string.h>
 #include <time.h>
 
-enum { RECORDS = 65535, RECORD = 64, RUNS = 5, FILL = 170 };
+enum { RECORDS = 65535, RECORD = 64, FILE_RECORD = 32, FILE_RECORDS = 131072, RUNS = 5, FILL = 170 };
 
 /* ---- what is counted of a model */
 
@@ -180,7 +180,7 @@ static int write_all(const char *dir) {
 }
 
 static int read_and_write(const char *path) {
-    static uint8_t bytes[RECORD / 2 * 131072], again[sizeof bytes];
+    static uint8_t bytes[FILE_RECORD * FILE_RECORDS], again[sizeof bytes];
     uint64_t n = 0, c = 0, w = 0, size = 0;
     double tolerance = 0;
     uint8_t flags = 0;
@@ -193,7 +193,7 @@ static int read_and_write(const char *path) {
     if (answer == 0) answer = lenoshale_write(coords, 3 * n, kinds, c, ends, c, words, w, tolerance, flags, cap, again, sizeof again, &size);
     if (answer != 0) return printf("refused %u\n", answer), 1;
     if (size != length || memcmp(bytes, again, length) != 0) return printf("WRONG: other bytes\n"), 1;
-    printf("%zu records read and written\n", length / (RECORD / 2));
+    printf("%zu records read and written\n", length / FILE_RECORD);
     return 0;
 }
 

@@ -10,7 +10,7 @@ use lib.Dec.{T, ltb}
 use lib.Pow.{pow-pos}
 use lib.Ieee.{Float, nan, inf, fin, Format, binary64, prec, emax, low, up, down, odd, units, round, neg, sum, sub, mul, below, lt, le, isNan}
 use lib.Ieee.Fits.{down-pos, round-is}
-use lib.Ieee.Exact.{HasValue, odd-sign, round-exact}
+use lib.Ieee.Exact.{HasValue, round-exact}
 use lib.Ieee.Order.{round-mono}
 use lib.Ieee.Scale.{round-same}
 use borrow.Author.Tests.{ltb-true, ltb-false}
@@ -41,25 +41,17 @@ units-neg f q k = go (ltb (q * 2 ^ k) (2 ^ (low f + suc (emax f))))
 round-neg : (f : Format) (a c : ℕ) → round f true a c ≡ neg (round f false a c)
 round-neg f a c = rw (round-is f true a c, round-is f false a c) (units-neg f _ _)
 
--- a value that has a fraction is no NaN
-value-number : (z : Float) (s : Bool) (a c : ℕ) → HasValue z s a c → T (not (isNan z))
-unfolding isNan
-value-number nan s a c v = absurd v
-value-number (inf t) s a c v = tt
-value-number (fin t m e) s a c v = tt
+-- what is not below zero is no NaN, with a minus sign neither
+grown-number : (z : Float) → T (grown z) → T (not (isNan z)) × T (not (isNan (neg z)))
+unfolding isNan neg
+grown-number nan g = absurd g
+grown-number (inf s) g = (tt, tt)
+grown-number (fin s m e) g = (tt, tt)
 
--- a count of units is no NaN
-units-number : (f : Format) (s : Bool) (q k : ℕ) → T (not (isNan (units f s q k)))
-unfolding units isNan
-units-number f s q k = go (ltb (q * 2 ^ k) (2 ^ (low f + suc (emax f))))
-  where
-    go : (b : Bool) → T (not (isNan (cond b (odd (suc (prec f)) s q k (low f)) (inf s))))
-    go true = value-number (odd (suc (prec f)) s q k (low f)) s (q * 2 ^ k) (2 ^ low f) (odd-sign (suc (prec f)) s q k (low f))
-    go false = tt
-
--- nor is a fraction, rounded
+-- so a fraction, rounded, is none
 round-number : (f : Format) (s : Bool) (a c : ℕ) → T (not (isNan (round f s a c)))
-round-number f s a c = rw (round-is f s a c) (units-number f s _ _)
+round-number f true a c = rw (round-neg f a c) (grown-number (round f false a c) (round-grown f a c) .1)
+round-number f false a c = grown-number (round f false a c) (round-grown f a c) .0
 
 -- what is at most y is not above it
 not-above : (x y : Float) → T (grown x) → T (grown y) → T (le x y) → lt y x ≡ false

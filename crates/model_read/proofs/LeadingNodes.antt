@@ -1,7 +1,7 @@
 -- The leading nodes of a file: how they are counted, what they add, and what is left behind them.
 use Prim.Native.Nat.{ℕ, zero, suc, _+_, _*_, _-_, _/_, _%_, _≤_, _<_}
 use mathlib.Core.Path.{_≡_, refl, sym, ap, _∙_, subst, subst₂}
-use mathlib.Core.Bool.{Bool, true, false, not, cond, _&&_}
+use mathlib.Core.Bool.{Bool, true, false, not, cond, _&&_, Bool·not-not}
 use mathlib.Core.List.{List, [], _∷_, _++_, append-nil}
 use native.Mathlib.Nat.{sub-zero}
 use native.Mathlib.Omega.{arith}
@@ -9,7 +9,7 @@ use lib.Dec.{eqb}
 use lib.ListN.{length, getD, take, drop, length-append, length-drop}
 use lib.Seq.{slice, sets, take-take, drop-drop}
 use lib.Ieee.{Float}
-use borrow.Author.Tests.{eqb-true, eq-eqb, ne-eqb, not-false}
+use borrow.Author.Tests.{eqb-true, eq-eqb, ne-eqb, not-true, not-false}
 use Rattle.laws.specs.Bytes.{number, zeros}
 use Rattle.laws.specs.Refusals.{refusal}
 use Rattle.laws.proofs.Stores.{take-drop, sets-append}
@@ -30,7 +30,7 @@ use Rattle.model_read.proofs.ZeroBytes.{first-byte, zeros-number}
 -- an N with nothing wrong, by the number of its first eight bytes
 node-number : (r : List ℕ) → rightNode r ≡ eqb (number (take 8 r)) 78
 node-number [] = refl
-node-number (b ∷ r) = ap (λ (t : Bool). eqb b 78 && t) (zeros-number (take 7 r)) ∙ first-byte b (number (take 7 r)) 78 (omega arith)
+node-number (b ∷ r) = ap (λ (t : Bool). eqb b 78 && t) (Bool·not-not (zeros (take 7 r)) ∙ zeros-number (take 7 r)) ∙ first-byte b (number (take 7 r)) 78 (omega arith)
 
 -- of a record of a file
 node-read : (s : List ℕ) (at : ℕ) → rightNode (take 32 (drop at s)) ≡ eqb (number (slice at (at + 8) s)) 78
@@ -74,10 +74,10 @@ pub record Led (front rest rs : List (List ℕ)) : Type 0 where
 -- one node more
 led-more : (r : List ℕ) (front rest rs : List (List ℕ)) → rightNode r ≡ true → Led front rest rs → Led (r ∷ front) rest (r ∷ rs)
 led-more r front rest rs h p =
-    let q = and-parts (eqb (getD r 0 0) 78) (zeros (slice 1 8 r)) h in
+    let q = and-parts (eqb (getD r 0 0) 78) (not (recordOff Node r)) h in
     let e : letter r ≡ Node = rw (q .0) in
     record {
-      judged = p .judged ∙ sym (ap (λ (l : Letter). refusal ((2, misplaced 0 l) ∷ (3, recordOff l r) ∷ recordsTable (stage l r) rs)) e ∙ ap (λ (b : Bool). cond (not b) 3 (judge 0 rs)) (q .1));
+      judged = p .judged ∙ sym (ap (λ (l : Letter). refusal ((2, misplaced 0 l) ∷ (3, recordOff l r) ∷ recordsTable (stage l r) rs)) e ∙ ap (λ (b : Bool). cond b 3 (judge 0 rs)) (not-true (recordOff Node r) (q .1)));
       coords = coords-step r rs Node e ∙ ap (λ (l : List Float). coordsIn Node r ++ l) (p .coords);
       kinds = p .kinds ∙ sym (kinds-step r rs Node e);
       ends = p .ends ∙ sym (ends-step r rs Node e false 0);
@@ -101,7 +101,7 @@ node-leads : (r : List ℕ) → letter r ≡ Node → recordOff Node r ≡ false
 node-leads r e g = go (eqb (getD r 0 0) 78) refl
   where
     go : (b : Bool) → eqb (getD r 0 0) 78 ≡ b → rightNode r ≡ true
-    go true h = rw (h, not-false (zeros (slice 1 8 r)) g)
+    go true h = rw (h, g)
     go false h = absurd (no-node (eqb (getD r 0 0) 67) (eqb (getD r 0 0) 75) (eqb (getD r 0 0) 84) (sym (ap (λ (b : Bool). cond b Node (cond (eqb (getD r 0 0) 67) Cell (cond (eqb (getD r 0 0) 75) More (cond (eqb (getD r 0 0) 84) Last Other)))) h) ∙ e))
       where
         no-node : (a b c : Bool) → cond a Cell (cond b More (cond c Last Other)) ≡ Node → ⊥

@@ -1,15 +1,14 @@
 -- For internal contracts: how far the lists are filled, and what the passes over records need and leave.
 use Prim.Native.Nat.{ℕ, suc, _+_, _*_, _-_, _/_, _%_, _^_, _≤_, _<_}
 use mathlib.Core.Path.{_≡_}
-use mathlib.Core.Bool.{Bool, false, cond, _&&_, _||_}
+use mathlib.Core.Bool.{Bool, false, not, cond, _&&_, _||_}
 use mathlib.Core.List.{List, [], _∷_}
 use lib.Dec.{eqb, ltb}
 use lib.ListN.{length, getD, drop}
-use lib.Seq.{slice, sets}
+use lib.Seq.{sets}
 use lib.Ieee.{Float}
-use Rattle.laws.specs.Bytes.{zeros}
 use Rattle.laws.specs.Lists.{each}
-use Rattle.model_file.specs.Records.{letter, byte1, floatAt, capIn, wordsAt, coordsIn, kindsIn, wordsIn, endsIn}
+use Rattle.model_file.specs.Records.{letter, byte1, floatAt, capIn, wordsAt, coordsIn, kindsIn, wordsIn, endsIn, recordOff}
 use Rattle.model_file.specs.File.{records, coordsOf, kindsOf, wordsOf, endsOf}
 use Rattle.model_file.specs.Steps.{judge}
 use Rattle.model_file.specs.declared.Letter.{Letter}
@@ -24,7 +23,7 @@ after l r p = record { coords = p .coords + length (coordsIn l r); cells = p .ce
 
 -- an N with nothing wrong
 abbrev pub rightNode : List ℕ → Bool
-rightNode r = eqb (getD r 0 0) 78 && zeros (slice 1 8 r)
+rightNode r = eqb (getD r 0 0) 78 && not (recordOff Node r)
 
 -- how many records from the first on are such
 abbrev pub leading : List (List ℕ) → ℕ

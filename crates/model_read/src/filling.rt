@@ -2,9 +2,8 @@
 ghost use mathlib.Core.Path.{_≡_};
 ghost use Prim.Native.Nat.{_+_, _*_, _-_, _≤_, _<_, _^_};
 ghost use lib.Dec.{ltb};
-ghost use lib.ListN.{length, set, take, drop};
+ghost use lib.ListN.{length, take, drop};
 ghost use lib.Seq.{sets};
-ghost use lib.Ieee.{binary64, ofBits};
 ghost use Rattle.laws.specs.Bytes.{number};
 ghost use Rattle.model_file.specs.File.{chop};
 ghost use Rattle.model_file.specs.Records.{widen, wordsAt, count, coordsIn, kindsIn, wordsIn, endsIn};
@@ -27,27 +26,14 @@ fn word_at(s: &[u8], at: usize) -> u32
     w as u32
 }
 
-// The value of a pattern, stored in each branch: a NaN's pattern gives the NaN.
-fn put_coord(coords: &mut [f64], at: usize, n: u64)
-    requires { ⌜ at + 1 ≤ length (now coords) ⌝ }
-    ensures { λ _. ⌜ now (coords .exit) ≡ set (now (coords .entry)) at (ofBits binary64 n) ⌝ }
-{
-    let m = n % 0x8000_0000_0000_0000;
-    if 0x7ff0_0000_0000_0000 < m {
-        coords[at] = 0.0 / 0.0;
-        return;
-    }
-    coords[at] = f64::from_bits(n);
-}
-
 // The coordinates of an N.
 fn put_node(r: &[u8], coords: &mut [f64], at: usize)
     requires { ⌜ (length (now r) ≡ 32) × (at + 3 ≤ length (now coords)) ⌝ }
     ensures { λ _. ⌜ now (coords .exit) ≡ sets (now (coords .entry)) at (coordsIn Letter.Node (now (r .entry))) ⌝ }
 {
-    put_coord(coords, at, floats::le_u64(r, 8));
-    put_coord(coords, at + 1, floats::le_u64(r, 16));
-    put_coord(coords, at + 2, floats::le_u64(r, 24));
+    coords[at] = floats::le_f64(r, 8);
+    coords[at + 1] = floats::le_f64(r, 16);
+    coords[at + 2] = floats::le_f64(r, 24);
 }
 
 // The kind of a C.
