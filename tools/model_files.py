@@ -1,8 +1,9 @@
 #!/usr/bin/env python3
-"""model_files.py VECTORS: fills crates/model_files/data from the folder of published cases, and writes what the program must print.
+"""model_files.py VECTORS: fills crates/operations/data from the folder of published cases and with models at document 01's limits, and
+writes what the program must print of them.
 
-A reading of docs/FORMAT.md of its own: it judges and takes apart each file, judges the model by 5 to 10, and expects the same bytes back
-from each model that passes. Case 900 is the worked example of that page."""
+A reading of document 01 and docs/FORMAT.md of its own: it judges and takes apart each file, judges the model by 5 to 10, and expects the
+same bytes back from each model that passes. Case 900 is the worked example of that page."""
 import math
 import os
 import shutil
@@ -51,20 +52,18 @@ def read(data):
             raise Refused(3)
     if letters[-1][0] != "T":
         raise Refused(2)
-    cells = []
+    kinds, ends, all_words = [], [], []
     for (letter, count), r in zip(letters, records):
-        words = [SEPARATOR if w == 65535 else w for w in struct.unpack("<14H", r[4:])[:count]]
         if letter == "C":
-            cells.append((r[1], words))
-        if letter == "K":
-            cells[-1][1].extend(words)
-    ends = []
-    for _, words in cells:
-        ends.append((ends[-1] if ends else 0) + len(words))
+            kinds.append(r[1])
+            ends.append(len(all_words))
+        if letter in "CK":
+            all_words += [SEPARATOR if w == 65535 else w for w in struct.unpack("<14H", r[4:])[:count]]
+            ends[-1] = len(all_words)
     model = {
         "coords": [x for (l, _), r in zip(letters, records) if l == "N" for x in struct.unpack("<3d", r[8:])],
-        "kinds": [k for k, _ in cells], "ends": ends, "words": [w for _, ws in cells for w in ws],
-        "cells": cells, "tolerance": struct.unpack("<d", records[-1][8:16])[0], "flags": records[-1][1]}
+        "kinds": kinds, "ends": ends, "words": all_words,
+        "tolerance": struct.unpack("<d", records[-1][8:16])[0], "flags": records[-1][1]}
     if any(len(model[name]) > most for name, most in LISTS.items()):
         raise Refused(4)
     return model
@@ -80,9 +79,25 @@ def runs(words):
     return out
 
 
+def lists_off(m):
+    """Refusal 5."""
+    if len(m["coords"]) > 3 * 65535 or len(m["kinds"]) > 16384 or len(m["words"]) > 262144 or len(m["coords"]) % 3:
+        return True
+    ends = [0] + m["ends"]
+    return len(m["kinds"]) != len(m["ends"]) or ends[-1] != len(m["words"]) or any(a > b for a, b in zip(ends, ends[1:]))
+
+
+def cell_off(kind, words, nodes):
+    """Refusal 9, but for the order of kinds."""
+    if kind not in (1, 2, 3, 4) or (kind < 4 and len(words) != {1: 4, 2: 8, 3: 6}[kind]):
+        return True
+    if kind == 4 and (not words or any(len(r) > 64 for r in runs(words))):
+        return True
+    return any(w >= nodes and not (kind == 4 and w == SEPARATOR) for w in words)
+
+
 def model_refusal(m):
-    nodes = len(m["coords"]) // 3
-    if nodes > 65535 or len(m["kinds"]) > 16384 or len(m["words"]) > 262144 or (not m["kinds"] and m["words"]):
+    if lists_off(m):
         return 5
     if not math.isfinite(m["tolerance"]) or m["tolerance"] < 0:
         return 6
@@ -90,17 +105,10 @@ def model_refusal(m):
         return 7
     if not m["kinds"]:
         return 8
-    before = 0
-    for kind, words in m["cells"]:
-        if kind not in (1, 2, 3, 4) or kind < before:
-            return 9
-        before = kind
-        if kind < 4 and len(words) != {1: 4, 2: 8, 3: 6}[kind]:
-            return 9
-        if kind == 4 and (not words or any(len(r) > 64 for r in runs(words))):
-            return 9
-        if any(w >= nodes and not (kind == 4 and w == SEPARATOR) for w in words):
-            return 9
+    starts = [0] + m["ends"]
+    cells = [(kind, m["words"][a:b]) for kind, a, b in zip(m["kinds"], starts, m["ends"])]
+    if m["kinds"] != sorted(m["kinds"]) or any(cell_off(kind, words, len(m["coords"]) // 3) for kind, words in cells):
+        return 9
     return 10 if m["flags"] > 3 else 0
 
 
@@ -139,6 +147,46 @@ def example():
     return b"".join(bytes.fromhex(row[8:55]) for row in rows)
 
 
+def limits():
+    """Names and models: a tetrahedron but for what is said."""
+    corners = [0.0, 0.0, 0.0, 1.0, 0.0, 0.0, 0.0, 1.0, 0.0, 0.0, 0.0, 1.0]
+    nan, apart = math.nan, [0, 1, 2, SEPARATOR]
+
+    def but(name, coords=corners, kinds=[1], ends=[4], words=[0, 1, 2, 3], tolerance=0.0, flags=3):
+        return name, {"coords": coords, "kinds": kinds, "ends": ends, "words": words, "tolerance": tolerance, "flags": flags}
+
+    def twice(name, kinds, ends):
+        return but(name, kinds=kinds, ends=ends, words=[0, 1, 2, 3] * (ends[1] // 4))
+
+    def ring(name, words):
+        return but(name, kinds=[4], ends=[words], words=[0] * words)
+    return [
+        but("65,535 nodes", [0.0] * 196605), but("65,536 nodes", [0.0] * 196608), but("a coordinate too few", corners[:11]),
+        but("more kinds than ends", kinds=[1, 1]), but("a word behind the last end", ends=[3]),
+        but("ends descend", kinds=[1, 1, 1], ends=[4, 3, 4]), but("words without cells", kinds=[], ends=[]),
+        but("tolerance -0", tolerance=-0.0), but("tolerance below zero", tolerance=-1.0), but("tolerance infinite", tolerance=math.inf),
+        but("tolerance no number, flags 4", tolerance=nan, flags=4),
+        but("coordinates at the limit", [-1000000.0] + corners[1:11] + [1000000.0]), but("a coordinate beyond", corners[:11] + [1000001.0]),
+        but("a coordinate no number, tolerance below zero", corners[:11] + [nan], tolerance=-1.0),
+        but("a coordinate no number, no cells", corners[:11] + [nan], [], [], []), but("a coordinate no number", corners[:11] + [nan]),
+        but("no cells", corners, [], [], []), but("no cells, flags 4", corners, [], [], [], flags=4), but("no nodes and no cells", [], [], [], []),
+        but("kind 0", kinds=[0]), but("kind 5", kinds=[5]), twice("kinds descend", [4, 1], [4, 8]),
+        twice("a PHED behind a tetrahedron", [1, 4], [4, 8]), but("a hexahedron of four words", kinds=[2]), twice("an empty cell", [1, 4], [4, 4]),
+        but("a separator in a tetrahedron", words=apart), but("a separator in a PHED", kinds=[4], words=apart),
+        but("node 2 of two", corners[:6], [4], words=apart), but("node 2 of two, flags 4", corners[:6], [4], words=apart, flags=4),
+        ring("a ring of 64 nodes", 64), ring("a ring of 65 nodes", 65),
+        but("flags 0", flags=0), but("flags 3"), but("flags 4", flags=4), but("flags 255", flags=255)]
+
+
+def limit_bytes(name, m):
+    """A model as crates/operations/src/limits.rt reads it."""
+    last = max([i + 1 for i, x in enumerate(m["coords"]) if x != 0.0], default=0)
+    ends, words = m["ends"], m["words"]
+    head = bytes([len(name), last, len(m["kinds"]), len(ends), len(words), m["flags"], 0, 0])
+    return (head + struct.pack("<IId", len(m["coords"]), 0, m["tolerance"]) + name.encode() + struct.pack("<%dd" % last, *m["coords"][:last])
+            + bytes(m["kinds"]) + struct.pack("<%dI" % (len(ends) + len(words)), *ends, *words))
+
+
 def damages(data):
     lines = ["".join(outcome(data[:32 * n])[1] for n in range(len(data) // 32 + 1))]
     for by in (1, 128):
@@ -163,17 +211,22 @@ def wanted(vectors):
 
 
 def main():
-    top = os.path.join(os.path.dirname(os.path.abspath(__file__)), "..", "crates", "model_files")
+    top = os.path.join(os.path.dirname(os.path.abspath(__file__)), "..", "crates", "operations")
     shutil.rmtree(os.path.join(top, "data"), ignore_errors=True)
     os.mkdir(os.path.join(top, "data"))
     files = wanted(sys.argv[1]) + [("case-0900.in", example())]
-    for name, data in files + [("good.in", good())]:
+    at_limits = limits()
+    listed = ("limits", b"".join(limit_bytes(*one) for one in at_limits))
+    for name, data in files + [("good.in", good()), listed]:
         with open(os.path.join(top, "data", name), "wb") as f:
             f.write(data)
     lines = ["%s %s" % (name, outcome(data)[0]) for name, data in files]
     lines += ["good.in " + outcome(good())[0]] + damages(good())
-    with open(os.path.join(top, "stdout"), "w") as f:
-        f.write("\n".join(lines) + "\n")
+    path = os.path.join(top, "stdout")
+    printed = open(path).read()
+    between = printed[printed.index("lists of 12 words"):printed.index("case-")]  # what ring lists and lookups print
+    with open(path, "w") as f:
+        f.write("".join("%s %d\n" % (name, model_refusal(m)) for name, m in at_limits) + between + "\n".join(lines) + "\n")
 
 
 main()

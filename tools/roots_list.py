@@ -1,5 +1,5 @@
 #!/usr/bin/env python3
-"""Writes crates/roots/stdin: 4,096 binary64 patterns, each followed by the pattern of its square root.
+"""Writes crates/numbers/data/roots: 4,096 binary64 patterns, each followed by the pattern of its square root.
 
 The roots are the machine's own IEEE 754 squareRoot (Python's math.sqrt). Both patterns are eight bytes, lowest first.
 Where the answer is a NaN, 7FF8000000000000 is recorded. The list is the same at every run."""
@@ -51,7 +51,7 @@ def main():
     rng = random.Random(13)
     inputs = list(chosen(rng))
     inputs += [rng.randrange(0, INFINITY) for _ in range(COUNT - len(inputs))]
-    path = os.path.join(os.path.dirname(os.path.abspath(__file__)), "..", "crates", "roots", "stdin")
+    path = os.path.join(os.path.dirname(os.path.abspath(__file__)), "..", "crates", "numbers", "data", "roots")
     with open(path, "wb") as out:
         for bits in inputs[:COUNT]:
             out.write(struct.pack("<QQ", bits, root(bits)))

@@ -1,9 +1,14 @@
 #!/usr/bin/env python3
-"""weld_sets.py: writes the node sets of crates/welds/data, with the welded numbers that each must get.
+"""weld_sets.py: writes crates/numbers/data/welds, node sets with the welded numbers that each must get.
 
 The welding here is a reading of document 01's paragraph 'Welded numbers', beside `duplicates_dim_n` of the reference,
 in doubles as Python has them. A set is: the number of nodes (4 bytes), 4 zero bytes, the tolerance (8), three coordinates a node
-(8 each), then a welded number a node (4 each), all little-endian."""
+(8 each), then a welded number a node (4 each), all little-endian; in the list each has its name before it, with the name's length
+in a byte, and its size in 4 bytes. tools/rust/record.sh puts `duplicates_dim_n`'s numbers in the place of those written here, and
+says where they differ.
+
+The sets sum-order-* tell a squared distance summed as dx² + (dy² + dz²): the two orders differ by one unit in the last place, and the
+tolerance's square is the lower of them. Found by trying all differences of tenths up to 2.9 with tolerances of tenths."""
 import math, os, random, struct
 
 
@@ -35,33 +40,41 @@ def welded(nodes, tolerance):
     return numbers
 
 
-def write(name, nodes, tolerance):
+def entry(name, nodes, tolerance):
     data = struct.pack("<IId", len(nodes), 0, tolerance)
     data += b"".join(struct.pack("<3d", *p) for p in nodes)
     data += b"".join(struct.pack("<I", n) for n in welded(nodes, tolerance))
-    with open(os.path.join(os.path.dirname(__file__), "..", "crates", "welds", "data", name), "wb") as f:
-        f.write(data)
+    return bytes([len(name)]) + name.encode() + struct.pack("<I", len(data)) + data
 
 
-def main():
+def sets():
     dice = random.Random(4)
     chain = [(0.6 * i, 0.0, 0.0) for i in range(40)]
     dice.shuffle(chain)
-    write("chain", chain, 1.0)
-    write("equal", [(1.5, -2.0, 3.25)] * 5 + [(1.5, -2.0, 3.5)] * 4 + [(1.5, -2.0, 3.25)] * 3, 0.125)
-    write("zeros", [(s, t, u) for s in (0.0, -0.0) for t in (-0.0, 0.0) for u in (0.0, -0.0)], 1e-9)
-    write("signs", [(0.0, 0.0, 0.0), (-0.0, 1.0, 0.0), (0.0, 2.0, -0.0), (-0.0, 5.0, 0.0), (0.0, 5.0, -0.5), (0.0, 5.0, 0.5)], 1.0)
+    yield ("chain", chain, 1.0)
+    yield ("equal", [(1.5, -2.0, 3.25)] * 5 + [(1.5, -2.0, 3.5)] * 4 + [(1.5, -2.0, 3.25)] * 3, 0.125)
+    yield ("zeros", [(s, t, u) for s in (0.0, -0.0) for t in (-0.0, 0.0) for u in (0.0, -0.0)], 1e-9)
+    yield ("signs", [(0.0, 0.0, 0.0), (-0.0, 1.0, 0.0), (0.0, 2.0, -0.0), (-0.0, 5.0, 0.0), (0.0, 5.0, -0.5), (0.0, 5.0, 0.5)], 1.0)
     flat = [(7.0, dice.uniform(-1, 1), dice.uniform(-1, 1)) for _ in range(300)]
-    write("flat", flat, 0.1)
+    yield ("flat", flat, 0.1)
     edge = [(0.0, 0.0, 0.0), (3.0, 4.0, 0.0), (0.0, 3.0, 4.0), (math.nextafter(5.0, 6), 0.0, 0.0), (5.0, 0.0, 0.0)]
-    write("edge", edge, 5.0)
-    write("tenths", [(0.1 * i, 0.1 * (i % 3), 0.3 * (i % 2)) for i in range(60)], 0.3)
-    write("later", [(2.0, 0.0, 0.0), (1.0, 0.0, 0.0), (0.0, 0.0, 0.0), (2.5, 0.0, 0.0)], 1.0)
-    write("exact", [(1.0, 1.0, 1.0)] * 6, 0.0)
-    write("below", [(1.0, 1.0, 1.0)] * 6, -0.0)
-    write("empty", [], 1.0)
+    yield ("edge", edge, 5.0)
+    yield ("tenths", [(0.1 * i, 0.1 * (i % 3), 0.3 * (i % 2)) for i in range(60)], 0.3)
+    yield ("later", [(2.0, 0.0, 0.0), (1.0, 0.0, 0.0), (0.0, 0.0, 0.0), (2.5, 0.0, 0.0)], 1.0)
+    yield ("exact", [(1.0, 1.0, 1.0)] * 6, 0.0)
+    yield ("below", [(1.0, 1.0, 1.0)] * 6, -0.0)
+    yield ("empty", [], 1.0)
     many = [tuple(dice.uniform(-1, 1) for _ in range(3)) for _ in range(10000)]
-    write("random", many, 0.06)
+    yield ("random", many, 0.06)
+    for name, difference, tolerance in (
+            ("apart-1", (0.1, 0.6, 1.8), 1.9), ("apart-2", (0.8, 1.1, 1.6), 2.1), ("apart-3", (1.4, 2.2, 2.9), 3.9),
+            ("welded-1", (1.8, 0.6, 0.1), 1.9), ("welded-2", (0.4, 1.3, 1.6), 2.1), ("welded-3", (1.8, 1.5, 2.6), 3.5)):
+        yield ("sum-order-" + name, [(0.0, 0.0, 0.0), difference], tolerance)
+
+
+def main():
+    with open(os.path.join(os.path.dirname(__file__), "..", "crates", "numbers", "data", "welds"), "wb") as f:
+        f.write(b"".join(entry(*one) for one in sets()))
 
 
 main()

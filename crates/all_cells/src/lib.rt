@@ -5,6 +5,7 @@ ghost use lib.ListN.{length};
 ghost use Rattle.laws.specs.Lists.{each, upFrom};
 ghost use Rattle.geometry.specs.Coordinates.{nodeCount};
 ghost use Rattle.index.specs.Faces.{input, base};
+ghost use Rattle.seek.specs.Candidates.{Tallied};
 ghost use Rattle.triple_keys.specs.Keys.{Keyed};
 ghost use Rattle.records.specs.Keeping.{Kept};
 ghost use Rattle.layout.specs.Tables.{Faced, Standing, Still};
@@ -100,7 +101,7 @@ pub fn keep_overs(
     k
 }
 
-// 3, partly shared pairs.
+// 3, partly shared pairs: every face is sought the way that is asked for, and counted. The pairs do not depend on the way.
 pub fn keep_pairs(
     coords: &[f64],
     tol: f64,
@@ -111,16 +112,24 @@ pub fn keep_pairs(
     findings: &mut [u8],
     room: usize,
     n: usize,
-) -> usize
+) -> partially_shared::Counts
     requires { ⌜ Standing l (now work) ⌝ }
     requires { ⌜ (l .at .nodes ≡ nodeCount (now coords)) × Keyed (l .at) by (base (l .at) (now work)) ⌝ }
     requires { ⌜ (64 * room ≤ length (now findings)) × (n ≤ 2 ^ 50) ⌝ }
-    ensures { λ k. ⌜ Kept (plainRules (now (coords .entry)) tol) room n (each (partlyCell (plainRules (now (coords .entry)) tol) l (input (l .at) (now (work .entry)))) (upFrom 0 (l .at .«cell_count»))) (now (findings .entry)) (now (findings .exit)) k ⌝ }
-    ensures { λ k. ⌜ (k ≤ n + 2 ^ 40) × Still l (now (work .entry)) (now (work .exit)) ⌝ }
+    ensures { λ k. ⌜ Kept (plainRules (now (coords .entry)) tol) room n (each (partlyCell (plainRules (now (coords .entry)) tol) l (input (l .at) (now (work .entry)))) (upFrom 0 (l .at .«cell_count»))) (now (findings .entry)) (now (findings .exit)) (k .findings) ⌝ }
+    ensures { λ k. ⌜ (k .findings ≤ n + 2 ^ 40) × Still l (now (work .entry)) (now (work .exit)) ⌝ }
+    ensures { λ k. ⌜ Tallied «by_nodes» (l .at .faces) (k .tally) ⌝ }
 {
     let p = l.at;
     let cells = p.cell_count;
-    let mut k = n;
+    let none = seek::Tally {
+        nodes: 0,
+        triples: 0,
+    };
+    let mut k = partially_shared::Counts {
+        findings: n,
+        tally: none,
+    };
     let mut c = 0;
     while c < cells {
         k = partially_shared::keep_partly(coords, tol, work, l, by, c, by_nodes, findings, room, k);

@@ -1,6 +1,6 @@
 -- The area test, case by case; one turn of each loop over the differences.
-use mathlib.Core.Path.{_≡_, refl, ap}
-use mathlib.Core.Bool.{true, false}
+use mathlib.Core.Path.{_≡_, refl, sym, ap, _∙_}
+use mathlib.Core.Bool.{Bool, true, false, cond}
 use mathlib.Core.List.{List, [], _∷_}
 use Prim.Native.Nat.{ℕ, _+_, _<_, _≤_}
 use native.Mathlib.Omega.{arith}
@@ -11,9 +11,12 @@ use Rattle.geometry.specs.declared.Point.{Point}
 use Rattle.geometry.specs.Points.{pointSub, pointCross, lengthOf, pointAt, pointsOf}
 use Rattle.geometry.specs.Scale.{scaleOf, epsOf}
 use Rattle.geometry.proofs.Listed.{points-length, points-next, points-end}
-use Rattle.area.specs.declared.Area.the-variants.{TooFew, Together}
+use Rattle.area.specs.declared.Area.{Area}
+use Rattle.area.specs.declared.Area.the-variants.{TooFew, Together, NoDirection, Thin, Spans}
+use Rattle.area.specs.declared.Heading.{Heading}
+use Rattle.area.specs.declared.Heading.the-variants.{Along, Missing}
 use Rattle.area.specs.AreaTest.{differencesOf, extentOf, directionOf, thickOf, alongOf, spreadOf, areaOf}
-use Rattle.area.specs.Steps.{awayFrom}
+use Rattle.area.specs.Steps.{awayFrom, headed}
 
 -- ---- differences
 
@@ -76,3 +79,23 @@ together eps ds t = simp t
 pub apart : (eps : Float) (ds : List Point) → le (extentOf ds) eps ≡ false → spreadOf eps ds ≡ alongOf (mul binary64 eps (extentOf ds)) ds (directionOf eps ds)
 unfolding spreadOf
 apart eps ds t = simp t
+
+-- a is the answer for differences ds that head by h, with the bound b
+pub record Heading-says (a : Area) (b : Float) (ds : List Point) (h : Heading) : Type 0 where
+  pub is : a ≡ alongOf b ds (headed h)
+
+module _ {a : Area} {b : Float} {ds : List Point} {h : Heading} (e : Heading-says a b ds h) where
+  module _ {dir : Point} {r : Bool} (f : h ≡ Along dir) (g : r ≡ thickOf b dir ds) where
+    decided : (o : Bool) → r ≡ o → cond o Spans Thin ≡ a
+    decided o k = sym (e .is ∙ ap (λ (x : Heading). alongOf b ds (headed x)) f ∙ ap (λ (x : Bool). cond x Spans Thin) (sym g ∙ k))
+
+    -- some difference is thick, or none
+    pub spans : r ≡ true → Spans ≡ a
+    spans = decided true
+
+    pub thin : r ≡ false → Thin ≡ a
+    thin = decided false
+
+  -- there is no direction
+  pub no-direction : h ≡ Missing → NoDirection ≡ a
+  no-direction f = sym (e .is ∙ ap (λ (x : Heading). alongOf b ds (headed x)) f)

@@ -10,9 +10,8 @@ use borrow.Author.Tests.{leb-true, le-leb, lt-leb}
 use lib.Dec.{leb, eqb}
 use lib.ListN.{length, getD, take, drop}
 use lib.Seq.{sets, drop-cons, length-take-le}
-use Rattle.laws.specs.Merging.{region}
+use Rattle.laws.specs.Merging.{region, Asc}
 use Rattle.laws.specs.Lists.{add, elem}
-use Rattle.laws.proofs.Ascending.{Asc}
 use Rattle.laws.proofs.Tests.{tested, eqb-self}
 use Rattle.laws.proofs.Stores.{sets-append, sets-self, drop-region, take-region, length-region}
 use Rattle.sorting.specs.Seat.{seatOf}

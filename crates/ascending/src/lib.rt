@@ -4,9 +4,8 @@ ghost use Prim.Native.Nat.{_+_, _≤_, _<_};
 ghost use lib.Dec.{leb};
 ghost use lib.ListN.{length};
 ghost use lib.Seq.{sets};
-ghost use Rattle.laws.specs.Merging.{region};
+ghost use Rattle.laws.specs.Merging.{region, Asc};
 ghost use Rattle.laws.specs.Lists.{elem, add, eql};
-ghost use Rattle.laws.proofs.Ascending.{Asc};
 ghost use Rattle.sorting.specs.Seat.{seatOf};
 
 // v stands among the k words from s on.

@@ -30,7 +30,7 @@ fn ring_meets(coords: &[f64], tol: f64, work: &[u32], l: Layout, g: usize) -> bo
     requires { ⌜ Ringed l (take (l .at .bows) (now work)) × (l .at .nodes ≡ nodeCount (now coords)) × (g < l .at .faces) ⌝ }
     ensures { λ r. ⌜ r ≡ ringBow (now (coords .entry)) tol l (take (l .at .bows) (now (work .entry))) g ⌝ }
 {
-    let p = l.at;
+    let p: index::Places = l.at;
     let s = layout::ring_row(work, l, g);
     let e = layout::ring_row(work, l, g + 1);
     let start = l.rings + s;
@@ -81,7 +81,7 @@ pub fn put_bows(coords: &[f64], tol: f64, work: &mut [u32], l: Layout)
     requires { ⌜ Ringed l (take (l .at .bows) (now work)) × (l .at .bows + l .at .«cell_count» ≤ length (now work)) × (l .at .nodes ≡ nodeCount (now coords)) ⌝ }
     ensures { λ _. ⌜ now (work .exit) ≡ sets (now (work .entry)) (l .at .bows) (map (λ c. bit (cellBow (now (coords .entry)) tol l (take (l .at .bows) (now (work .entry))) c)) (upFrom 0 (l .at .«cell_count»))) ⌝ }
 {
-    let p = l.at;
+    let p: index::Places = l.at;
     let o = p.bows;
     let n = p.cell_count;
     let mut c = 0;

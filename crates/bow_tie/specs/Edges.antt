@@ -12,9 +12,9 @@ use Rattle.geometry.specs.Scale.{grain}
 abbrev pub tiny : Float
 tiny = ofBits binary64 0x3d71_9799_812d_ea11
 
--- the least positive normal number, 2 ^ -1022
-abbrev pub least : Float
-least = ofBits binary64 0x10_0000_0000_0000
+-- Rust's `MIN_POSITIVE`: the least positive normal number, 2 ^ -1022
+abbrev pub minPositive : Float
+minPositive = ofBits binary64 0x10_0000_0000_0000
 
 -- from - slack to 1 + slack
 abbrev pub reaches : Float → Float → Float → Bool
@@ -55,7 +55,7 @@ meetingOf eps a b c d =
 
 -- the slack of a span along a - b: eps as a part of the edge's length
 unfoldable pub slackOf : Float → Point → Point → Float
-slackOf eps a b = div binary64 eps (largerOf (lengthOf (pointSub b a)) least)
+slackOf eps a b = div binary64 eps (largerOf (lengthOf (pointSub b a)) minPositive)
 
 -- the point at s on the edge from a to b
 unfoldable pub onEdge : Point → Point → Float → Point

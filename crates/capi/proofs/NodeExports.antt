@@ -1,15 +1,13 @@
 -- From the promises of welding, area test and root to the exported ones, for each case of the answer.
 use Prim.Native.Nat.{ℕ}
-use mathlib.Core.Path.{_≡_, sym, ap, _∙_}
+use mathlib.Core.Path.{_≡_, sym, ap, _∙_, subst}
 use mathlib.Core.List.{List}
 use lib.Ieee.{Float}
-use Rattle.laws.specs.Refusals.{refusal}
-use Rattle.floats.specs.Root.{sqrt}
-use Rattle.floats.specs.RootAnswer.{rootTable, rootTold, rootAnswer}
+use Rattle.laws.proofs.Tables.{answered-refused, answered-done}
+use Rattle.floats.specs.RootAnswer.{rootTold, rootAnswer}
 use Rattle.floats.specs.declared.Rooted.{Rooted}
 use Rattle.floats.specs.declared.Rooted.the-variants as Roots
-use Rattle.geometry.specs.Points.{pointsOf}
-use Rattle.area.specs.AreaTest.{areaOf, areaNumber, areaTable, areaTold, areaAnswer}
+use Rattle.area.specs.AreaTest.{areaNumber, areaTold, areaAnswer}
 use Rattle.area.specs.declared.Area.{Area}
 use Rattle.area.specs.declared.AreaAnswer.{AreaAnswer}
 use Rattle.area.specs.declared.AreaAnswer.the-variants as Areas
@@ -17,18 +15,18 @@ use Rattle.snap.specs.Welding.{weldRefusal, weldTold, Welding}
 use Rattle.snap.specs.declared.WeldAnswer.{WeldAnswer}
 use Rattle.snap.specs.declared.WeldAnswer.the-variants as Welds
 use Rattle.capi.specs.Nodes.{WeldExport, AreaExport, RootExport}
-use Rattle.capi.proofs.Told.{told-refused, told-done}
+use Rattle.capi.proofs.Told.{exported-refused, exported-done}
 
 -- ---- welding
 
 module _ (c : List Float) (t : Float) (map scratch : List ℕ) {map' scratch' : List ℕ} {r : WeldAnswer} (p : Welding c t map map' scratch scratch' r) where
   pub weld-refused : (n : ℕ) → r ≡ Welds.Refused n → WeldExport c t map map' scratch scratch' n
   weld-refused n e =
-      record { answered = told-refused n (weldRefusal c t map scratch) tt (sym (ap weldTold e) ∙ p .answered) .0; mapIs = p .mapIs; scratchIs = p .scratchIs }
+      record { answered = answered-refused n (weldRefusal c t map scratch) tt (sym (ap weldTold e) ∙ p .answered) .0; memory = p .memory }
 
   pub weld-done : r ≡ Welds.Filled → WeldExport c t map map' scratch scratch' 0
   weld-done e =
-      record { answered = sym (told-done (weldRefusal c t map scratch) tt tt (sym (ap weldTold e) ∙ p .answered) .0); mapIs = p .mapIs; scratchIs = p .scratchIs }
+      record { answered = sym (answered-done (weldRefusal c t map scratch) tt tt (sym (ap weldTold e) ∙ p .answered) .0); memory = p .memory }
 
 -- ---- area test
 
@@ -36,16 +34,12 @@ module _ (c : List Float) (ks : List ℕ) (tol : Float) (says : ℕ) {r : AreaAn
   -- refused: nothing is said
   pub area-refused : (n : ℕ) → r ≡ Areas.Refused n → AreaExport c ks tol says says n
   unfolding areaAnswer
-  area-refused n e =
-      let h = told-refused n (refusal (areaTable c ks tol)) (areaOf tol (pointsOf c ks)) (sym (ap areaTold e) ∙ p) in
-      record { answered = h .0; saysIs = rw (h .1) }
+  area-refused n e = exported-refused areaNumber n (sym (ap areaTold e) ∙ p)
 
   -- said: by its number
   pub area-done : (a : Area) (n : ℕ) → r ≡ Areas.Says a → n ≡ areaNumber a → AreaExport c ks tol says n 0
   unfolding areaAnswer
-  area-done a n e k =
-      let h = told-done (refusal (areaTable c ks tol)) a (areaOf tol (pointsOf c ks)) (sym (ap areaTold e) ∙ p) in
-      record { answered = sym (h .0); saysIs = rw (h .0) (k ∙ ap areaNumber (h .1)) }
+  area-done a n e k = subst (λ (i : ℕ). AreaExport c ks tol says i 0) (sym k) (exported-done areaNumber a (sym (ap areaTold e) ∙ p))
 
 -- ---- root
 
@@ -53,13 +47,9 @@ module _ (x root : Float) {r : Rooted} (p : rootTold r ≡ rootAnswer x) where
   -- refused: nothing is written
   pub root-refused : r ≡ Roots.Refused → RootExport x root root 13
   unfolding rootAnswer
-  root-refused e =
-      let h = told-refused 13 (refusal (rootTable x)) (sqrt x) (sym (ap rootTold e) ∙ p) in
-      record { answered = h .0; rootIs = rw (h .1) }
+  root-refused e = exported-refused (λ y. y) 13 (sym (ap rootTold e) ∙ p)
 
   -- the root
   pub root-done : (v : Float) → r ≡ Roots.Value v → RootExport x root v 0
   unfolding rootAnswer
-  root-done v e =
-      let h = told-done (refusal (rootTable x)) v (sqrt x) (sym (ap rootTold e) ∙ p) in
-      record { answered = sym (h .0); rootIs = rw (h .0) (h .1) }
+  root-done v e = exported-done (λ y. y) v (sym (ap rootTold e) ∙ p)

@@ -32,14 +32,14 @@ module _ (findings : List ℕ) (total kept : ℕ) (out : List ℕ) (size : ℕ) 
       go (inr a) = rw (le-ltb (length findings) (64 * kept) a, lt-ltb (length out) (textRoom kept) h)
 
   pub report-short : (length findings < 64 * kept) ⊎ (length out < textRoom kept) → ReportExport findings total kept out out size size 4
-  report-short h = let e = short h in record { answered = sym e; sizeIs = rw e; outIs = rw e }
+  report-short h = let e = short h in record { sizeIs = record { answered = sym e; lentIs = rw e }; outIs = rw e }
 
   -- else the text
   pub report-done : (out' : List ℕ) (n : ℕ) → 64 * kept ≤ length findings → textRoom kept ≤ length out
       → Stored out 0 (reportText (fieldsKept findings kept) total kept) out' n → n ≤ length out → ReportExport findings total kept out out' size n 0
   report-done out' n a b s h =
       let e : reportRefusal findings kept out ≡ 0 = rw (le-ltb (length findings) (64 * kept) a, le-ltb (length out) (textRoom kept) b) in
-      record { answered = sym e; sizeIs = rw e (omega (arith, s .1)); outIs = rw e (front (reportText (fieldsKept findings kept) total kept) out out' n s h) }
+      record { sizeIs = record { answered = sym e; lentIs = rw e (omega (arith, s .1)) }; outIs = rw e (front (reportText (fieldsKept findings kept) total kept) out out' n s h) }
 
 -- ---- the run
 
@@ -48,10 +48,10 @@ module _ (input out : List ℕ) (size : ℕ) where
   pub run-short : length out < textRoom programRecords → RunExport input out out size size 4
   run-short h =
       let e : runRefusal out ≡ 4 = rw (lt-ltb (length out) (textRoom programRecords) h) in
-      record { answered = sym e; sizeIs = rw e; outIs = rw e }
+      record { sizeIs = record { answered = sym e; lentIs = rw e }; outIs = rw e }
 
   -- else the output
   pub run-done : (out' : List ℕ) (n : ℕ) → textRoom programRecords ≤ length out → Stored out 0 (output input) out' n → n ≤ length out → RunExport input out out' size n 0
   run-done out' n a s h =
       let e : runRefusal out ≡ 0 = rw (le-ltb (length out) (textRoom programRecords) a) in
-      record { answered = sym e; sizeIs = rw e (omega (arith, s .1)); outIs = rw e (front (output input) out out' n s h) }
+      record { sizeIs = record { answered = sym e; lentIs = rw e (omega (arith, s .1)) }; outIs = rw e (front (output input) out out' n s h) }

@@ -1,36 +1,15 @@
--- An answer taken apart: a refusal's number, or the value.
-use Prim.Native.Nat.{ℕ, suc}
-use mathlib.Core.Path.{_≡_, ap}
-use mathlib.Core.Bool.{true, false}
-use mathlib.Core.Logic.{_⊎_, inl, inr}
-use native.Mathlib.Omega.{arith}
-use borrow.Author.Tests.{eqb-true}
-use lib.Dec.{eqb}
-use Rattle.laws.specs.Refusals.{Answer, refused, done, answer}
-use Rattle.laws.proofs.Tests.{tested}
+-- From an operation's answer to what an exported function answers, or a part f of it.
+use Prim.Native.Nat.{ℕ}
+use mathlib.Core.Path.{_≡_, sym, ap}
+use Rattle.laws.specs.Refusals.{refused, done, answer}
+use Rattle.laws.proofs.Tables.{answered-refused, answered-done}
+use Rattle.capi.specs.Written.{Exported}
 
--- one more than the number of a refusal, else 0
-abbrev number : {A : Type 0} → Answer A → ℕ
-number (refused n) = suc n
-number (done a) = 0
+module _ {A B : Type 0} (f : A → B) {x : ℕ} {v : A} {lent : B} where
+  -- refused: what is lent stays
+  pub exported-refused : (n : ℕ) → refused n ≡ answer x v → Exported x (f v) lent lent n
+  exported-refused n e = let h = answered-refused n x v e in record { answered = h .0; lentIs = rw (h .1) }
 
--- the value, d at a refusal
-abbrev valueIn : {A : Type 0} → A → Answer A → A
-valueIn d (refused n) = d
-valueIn d (done a) = a
-
--- a refusal's number is the table's, and not 0
-pub told-refused : {A : Type 0} (n x : ℕ) (a : A) → refused n ≡ answer x a → (n ≡ x) × (eqb x 0 ≡ false)
-told-refused n x a e = go (tested (eqb x 0))
-  where
-    go : (eqb x 0 ≡ true) ⊎ (eqb x 0 ≡ false) → (n ≡ x) × (eqb x 0 ≡ false)
-    go (inl b) = absurd (omega (arith, ap number (rw b at e)))
-    go (inr b) = (omega (arith, ap number (rw b at e)), b)
-
--- a value comes where nothing is refused, and is the definition's
-pub told-done : {A : Type 0} (x : ℕ) (a b : A) → done a ≡ answer x b → (x ≡ 0) × (a ≡ b)
-told-done x a b e = go (tested (eqb x 0))
-  where
-    go : (eqb x 0 ≡ true) ⊎ (eqb x 0 ≡ false) → (x ≡ 0) × (a ≡ b)
-    go (inl y) = (eqb-true x 0 y, ap (valueIn a) (rw y at e))
-    go (inr y) = absurd (omega (arith, ap number (rw y at e)))
+  -- answered: it is the value's
+  pub exported-done : (a : A) → done a ≡ answer x v → Exported x (f v) lent (f a) 0
+  exported-done a e = let h = answered-done x a v e in record { answered = sym (h .0); lentIs = rw (h .0) (ap f (h .1)) }

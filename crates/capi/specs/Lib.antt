@@ -1,4 +1,5 @@
 -- What the exported operations promise.
+pub mod Version
 pub mod Written
 pub mod Files
 pub mod Checks

@@ -2,29 +2,24 @@
 use Prim.Native.Nat.{ℕ}
 use mathlib.Core.List.{List}
 use mathlib.Core.Path.{_≡_}
-use lib.ListN.{replicate}
 use lib.Ieee.{Float}
-use Rattle.laws.specs.Refusals.{refusal, filled}
+use Rattle.laws.specs.Refusals.{refusal}
 use Rattle.floats.specs.Root.{sqrt}
 use Rattle.floats.specs.RootAnswer.{rootTable}
 use Rattle.geometry.specs.Points.{pointsOf}
 use Rattle.area.specs.AreaTest.{areaOf, areaNumber, areaTable}
-use Rattle.snap.specs.Weld.{weldedAll}
-use Rattle.snap.specs.Welding.{scratchNeeded, weldRefusal}
-use Rattle.capi.specs.Written.{written}
+use Rattle.snap.specs.Welding.{weldRefusal, WeldMemory}
+use Rattle.capi.specs.Written.{Exported}
 
--- Welding: 0 or the refusal's number; map and scratch as welding promises them (`Welding`).
+-- Welding: 0 or the refusal's number; map and scratch as welding promises them.
 pub record WeldExport (c : List Float) (t : Float) (map map' scratch scratch' : List ℕ) (r : ℕ) : Type 0 where
   pub answered : r ≡ weldRefusal c t map scratch
-  pub mapIs : map' ≡ filled (weldRefusal c t map scratch) (weldedAll c t) map
-  pub scratchIs : scratch' ≡ filled (weldRefusal c t map scratch) (replicate (scratchNeeded c) 0) scratch
+  pub memory : WeldMemory c t map map' scratch scratch'
 
--- Area test: 0 or the refusal's number; the number of what the test says, written only where that is 0.
-pub record AreaExport (c : List Float) (ks : List ℕ) (tol : Float) (says says' r : ℕ) : Type 0 where
-  pub answered : r ≡ refusal (areaTable c ks tol)
-  pub saysIs : says' ≡ written (refusal (areaTable c ks tol)) (areaNumber (areaOf tol (pointsOf c ks))) says
+-- Area test: 0 or the refusal's number; the number of what the test says.
+abbrev pub AreaExport : List Float → List ℕ → Float → ℕ → ℕ → ℕ → Type 0
+AreaExport c ks tol says says' r = Exported (refusal (areaTable c ks tol)) (areaNumber (areaOf tol (pointsOf c ks))) says says' r
 
--- Root: 0 or 13; the root, written only where that is 0.
-pub record RootExport (x root root' : Float) (r : ℕ) : Type 0 where
-  pub answered : r ≡ refusal (rootTable x)
-  pub rootIs : root' ≡ written (refusal (rootTable x)) (sqrt x) root
+-- Root: 0 or 13; the root.
+abbrev pub RootExport : Float → Float → Float → ℕ → Type 0
+RootExport x root root' r = Exported (refusal (rootTable x)) (sqrt x) root root' r

@@ -11,17 +11,27 @@ pub extern "C" fn lenoshale_fill_ring_lists(
     kinds: &[u8],
     ends: &[u32],
     words: &[u32],
-    tol: f64,
+    tolerance: f64,
     flags: u8,
     raw: &mut [u32],
     welded: &mut [u32],
     work: &mut [u32],
     count: &mut u32,
 ) -> u32
-    ensures { λ r. ⌜ FillExport (modelOf (now (coords .entry)) (now (kinds .entry)) (now (ends .entry)) (now (words .entry)) tol flags 0) (now (raw .entry)) (now (raw .exit)) (now (welded .entry)) (now (welded .exit)) (now (work .entry)) (now (work .exit)) (now (count .entry)) (now (count .exit)) r ⌝ }
+    ensures { λ r. ⌜ FillExport (modelOf (now (coords .entry)) (now (kinds .entry)) (now (ends .entry)) (now (words .entry)) tolerance flags 0) (now (raw .entry)) (now (raw .exit)) (now (welded .entry)) (now (welded .exit)) (now (work .entry)) (now (work .exit)) (now (count .entry)) (now (count .exit)) r ⌝ }
 {
     let checks = mesh::Checks(flags);
-    let a = ring_lists::fill_ring_lists(coords, kinds, ends, words, tol, checks, raw, welded, work);
+    let a = ring_lists::fill_ring_lists(
+        coords,
+        kinds,
+        ends,
+        words,
+        tolerance,
+        checks,
+        raw,
+        welded,
+        work,
+    );
     match a {
         RingsAnswer::Refused(n) => n as u32,
         RingsAnswer::Words(n) => {
@@ -38,16 +48,16 @@ pub extern "C" fn lenoshale_face_owners(
     kinds: &[u8],
     ends: &[u32],
     words: &[u32],
-    tol: f64,
+    tolerance: f64,
     flags: u8,
     face: usize,
     owners: &mut [u32],
     count: &mut u32,
 ) -> u32
-    ensures { λ r. ⌜ OwnersExport (modelOf (now (coords .entry)) (now (kinds .entry)) (now (ends .entry)) (now (words .entry)) tol flags 0) face (now (owners .entry)) (now (owners .exit)) (now (count .entry)) (now (count .exit)) r ⌝ }
+    ensures { λ r. ⌜ OwnersExport (modelOf (now (coords .entry)) (now (kinds .entry)) (now (ends .entry)) (now (words .entry)) tolerance flags 0) face (now (owners .entry)) (now (owners .exit)) (now (count .entry)) (now (count .exit)) r ⌝ }
 {
     let checks = mesh::Checks(flags);
-    let a = owners::face_owners(coords, kinds, ends, words, tol, checks, face, owners);
+    let a = owners::face_owners(coords, kinds, ends, words, tolerance, checks, face, owners);
     match a {
         Counted::Refused(n) => n as u32,
         Counted::Count(n) => {
@@ -64,7 +74,7 @@ pub extern "C" fn lenoshale_ring_lookup(
     kinds: &[u8],
     ends: &[u32],
     words: &[u32],
-    tol: f64,
+    tolerance: f64,
     flags: u8,
     raw: &[u32],
     welded: &[u32],
@@ -72,10 +82,20 @@ pub extern "C" fn lenoshale_ring_lookup(
     start: &mut u64,
     size: &mut u64,
 ) -> u32
-    ensures { λ r. ⌜ LookupExport (modelOf (now (coords .entry)) (now (kinds .entry)) (now (ends .entry)) (now (words .entry)) tol flags 0) (now (raw .entry)) (now (welded .entry)) face (now (start .entry)) (now (start .exit)) (now (size .entry)) (now (size .exit)) r ⌝ }
+    ensures { λ r. ⌜ LookupExport (modelOf (now (coords .entry)) (now (kinds .entry)) (now (ends .entry)) (now (words .entry)) tolerance flags 0) (now (raw .entry)) (now (welded .entry)) face (now (start .entry)) (now (start .exit)) (now (size .entry)) (now (size .exit)) r ⌝ }
 {
     let checks = mesh::Checks(flags);
-    let n = faces::ring_refusal(coords, kinds, ends, words, tol, checks, raw, welded, face);
+    let n = faces::ring_refusal(
+        coords,
+        kinds,
+        ends,
+        words,
+        tolerance,
+        checks,
+        raw,
+        welded,
+        face,
+    );
     if n != 0 {
         return n as u32;
     }

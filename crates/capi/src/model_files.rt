@@ -1,6 +1,7 @@
 // Reading a model file into lent lists, and writing one.
 ghost use Rattle.mesh.specs.Model.{modelOf};
-ghost use Rattle.capi.specs.Files.{foundOf, ReadExport, WriteExport};
+ghost use Rattle.model_file.specs.Reading.{foundOf};
+ghost use Rattle.capi.specs.Files.{ReadExport, WriteExport};
 use model_file::ReadAnswer;
 use model_file::WriteAnswer;
 
@@ -43,16 +44,16 @@ pub extern "C" fn lenoshale_write(
     kinds: &[u8],
     ends: &[u32],
     words: &[u32],
-    tol: f64,
+    tolerance: f64,
     flags: u8,
     cap: u16,
     out: &mut [u8],
     size: &mut u64,
 ) -> u32
-    ensures { λ r. ⌜ WriteExport (modelOf (now (coords .entry)) (now (kinds .entry)) (now (ends .entry)) (now (words .entry)) tol flags cap) (now (out .entry)) (now (out .exit)) (now (size .entry)) (now (size .exit)) r ⌝ }
+    ensures { λ r. ⌜ WriteExport (modelOf (now (coords .entry)) (now (kinds .entry)) (now (ends .entry)) (now (words .entry)) tolerance flags cap) (now (out .entry)) (now (out .exit)) (now (size .entry)) (now (size .exit)) r ⌝ }
 {
     let checks = mesh::Checks(flags);
-    let a = model_write::write(coords, kinds, ends, words, tol, checks, cap, out);
+    let a = model_write::write(coords, kinds, ends, words, tolerance, checks, cap, out);
     match a {
         WriteAnswer::Refused(n) => n as u32,
         WriteAnswer::Written(n) => {

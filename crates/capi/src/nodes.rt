@@ -11,13 +11,13 @@ use snap::WeldAnswer;
 #[no_mangle]
 pub extern "C" fn lenoshale_weld(
     coords: &[f64],
-    tol: f64,
+    tolerance: f64,
     map: &mut [u32],
     scratch: &mut [u32],
 ) -> u32
-    ensures { λ r. ⌜ WeldExport (now (coords .entry)) tol (now (map .entry)) (now (map .exit)) (now (scratch .entry)) (now (scratch .exit)) r ⌝ }
+    ensures { λ r. ⌜ WeldExport (now (coords .entry)) tolerance (now (map .entry)) (now (map .exit)) (now (scratch .entry)) (now (scratch .exit)) r ⌝ }
 {
-    let a = snap::weld(coords, tol, map, scratch);
+    let a = snap::weld(coords, tolerance, map, scratch);
     match a {
         WeldAnswer::Refused(n) => n as u32,
         WeldAnswer::Filled => 0,
@@ -42,12 +42,12 @@ fn area_number(a: Area) -> u32
 pub extern "C" fn lenoshale_area_test(
     coords: &[f64],
     nodes: &[u32],
-    tol: f64,
+    tolerance: f64,
     says: &mut u32,
 ) -> u32
-    ensures { λ r. ⌜ AreaExport (now (coords .entry)) (now (nodes .entry)) tol (now (says .entry)) (now (says .exit)) r ⌝ }
+    ensures { λ r. ⌜ AreaExport (now (coords .entry)) (now (nodes .entry)) tolerance (now (says .entry)) (now (says .exit)) r ⌝ }
 {
-    let a = area::area_test(coords, nodes, tol);
+    let a = area::area_test(coords, nodes, tolerance);
     match a {
         AreaAnswer::Refused(n) => n as u32,
         AreaAnswer::Says(s) => {

@@ -12,9 +12,8 @@ use lib.Seq.{sets, take-all, drop-append-seam}
 use lib.Ieee.{Float}
 use Rattle.laws.specs.Lists.{each}
 use Rattle.laws.specs.Refusals.{refusal}
-use Rattle.laws.proofs.Stores.{sets-front}
+use Rattle.laws.proofs.Stores.{sets-front, take-least}
 use Rattle.laws.proofs.Tables.{clear-append, refusal-first}
-use Rattle.laws.proofs.Tests.{split}
 use Rattle.mesh.specs.Model.{Model, modelOf, cellsOf}
 use Rattle.mesh.specs.Acceptance.{modelTable, modelRefusal, shapeOff, workNeeded, facesIn}
 use Rattle.mesh.proofs.Accepts.{accepted-clear}
@@ -24,7 +23,7 @@ use Rattle.findings.specs.Records.{recordOf, keptOf, keptBytes}
 use Rattle.findings.specs.Check.{Totals, totalsOf, checkRefusal, Checking}
 use Rattle.findings.specs.declared.CheckAnswer.the-variants.{Refused, Report}
 use Rattle.findings.proofs.Kept.{kept-64, kept-fits}
-use Rattle.conformance.specs.Found.{KeptBy}
+use Rattle.full_list.specs.Found.{KeptBy}
 
 -- ---- the rows
 
@@ -49,17 +48,9 @@ module _ (m : Model) (work : List ℕ) where
   pub refused-so : (findings : List ℕ) (n : ℕ) → checkRefusal m work ≡ n → n ≢ 0 → Checking m findings findings work work (Refused n)
   refused-so findings n e z =
       let q = ne-eqb n 0 z in
-      record { answered = rw (e, q); findingsAre = rw (e, q); workIs = rw (e, q) }
+      record { answered = rw (e, q); memory = record { findingsAre = rw (e, q); workIs = rw (e, q) } }
 
 -- ---- what is kept
-
--- the first of a list that is no longer
-take-least : {A : Type 0} (k : ℕ) (l : List A) → take k l ≡ take (min k (length l)) l
-take-least k l = go (split k (length l))
-  where
-    go : (k < length l) ⊎ (length l ≤ k) → take k l ≡ take (min k (length l)) l
-    go (inl h) = let e : k ≡ min k (length l) = omega (arith, h) in ap (λ (i : ℕ). take i l) e
-    go (inr h) = let e : length l ≡ min k (length l) = omega (arith, h) in take-all k l h ∙ sym (take-all (length l) l (omega arith)) ∙ ap (λ (i : ℕ). take i l) e
 
 module _ (m : Model) (findings findings' work : List ℕ) (room total kept : ℕ) (ok : checkRefusal m work ≡ 0)
     (room-is : room ≡ min (m .cap) (length findings / 64)) (found : KeptBy m room 0 (fullOf m) findings findings' total) (kept-is : kept ≡ min room total) where
@@ -82,14 +73,14 @@ module _ (m : Model) (findings findings' work : List ℕ) (room total kept : ℕ
       let z : 64 * 0 ≡ 0 = omega arith in
       let y : room - 0 ≡ room = omega arith in
       let k : min room (length (fullOf m)) ≡ totalsOf m (length findings) .kept = omega (arith, count-is, kept-is, total-is) in
-      let first : take (room - 0) (fullOf m) ≡ take (totalsOf m (length findings) .kept) (fullOf m) = ap (λ (i : ℕ). take i (fullOf m)) y ∙ take-least room (fullOf m) ∙ ap (λ (i : ℕ). take i (fullOf m)) k in
+      let first : take (room - 0) (fullOf m) ≡ take (totalsOf m (length findings) .kept) (fullOf m) = ap (λ (i : ℕ). take i (fullOf m)) y ∙ sym (take-least room (fullOf m)) ∙ ap (λ (i : ℕ). take i (fullOf m)) k in
       found .bytes
       ∙ ap₂ (λ (i : ℕ) (l : List Finding). sets findings i (each (recordOf (rulesOf m)) l)) z first
       ∙ sets-front findings (each (recordOf (rulesOf m)) (take (totalsOf m (length findings) .kept) (fullOf m))) (omega (arith, kept-64 m (length findings), kept-fits m (length findings)))
 
   -- so a report is as promised
   pub checked-so : (work' : List ℕ) → work' ≡ replicate (workNeeded m) 0 ++ drop (length (replicate {A = ℕ} (workNeeded m) 0)) work → Checking m findings findings' work work' (Report total kept)
-  checked-so work' e = record { answered = rw (ok, totals-are); findingsAre = bytes-are ∙ rw ok; workIs = e ∙ rw ok }
+  checked-so work' e = record { answered = rw (ok, totals-are); memory = record { findingsAre = bytes-are ∙ rw ok; workIs = e ∙ rw ok } }
 
 -- ---- the cap: acceptance, work and findings do not look at it
 
@@ -106,14 +97,3 @@ module _ (coords : List Float) (kinds ends words : List ℕ) (tol : Float) (flag
       → KeptBy (modelOf coords kinds ends words tol flags cap) room 0 (fullOf (modelOf coords kinds ends words tol flags cap)) f g k
   unfolding rulesOf fullOf cellsIn cellsOf
   cap-kept room k f g p = p
-
--- ---- the work ends zero
-
-pub work-zero : (work part work' : List ℕ) (need : ℕ) → need ≤ length work → length part ≡ need → work' ≡ sets (part ++ drop need work) 0 (replicate need 0)
-    → work' ≡ replicate need 0 ++ drop (length (replicate {A = ℕ} need 0)) work
-work-zero work part work' need h e p =
-    let zeros = length-replicate {A = ℕ} need 0 in
-    let long : length (part ++ drop need work) ≡ length work = length-append part (drop need work) ∙ omega (arith, e, length-drop need work, h) in
-    p
-    ∙ sets-front (part ++ drop need work) (replicate need 0) (omega (arith, zeros, long, h))
-    ∙ ap (λ (l : List ℕ). replicate need 0 ++ l) (ap (λ (k : ℕ). drop k (part ++ drop need work)) (zeros ∙ sym e) ∙ drop-append-seam part (drop need work) ∙ ap (λ (k : ℕ). drop k work) (sym zeros))

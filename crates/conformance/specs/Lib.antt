@@ -1,2 +1,2 @@
--- For internal contracts: the findings of a model, kind by kind.
-pub mod Found
+-- The check by either way.
+pub mod Ways

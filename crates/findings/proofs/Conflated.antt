@@ -18,10 +18,9 @@ use Rattle.mesh.specs.Lookup.{noFace, faceAt}
 use Rattle.findings.specs.Findings.{Rules, Finding, bowtie, overfull, partly, repeated, full}
 use Rattle.findings.specs.Records.{fieldsOf}
 use Rattle.findings.specs.Compared.{none, shares, namesPair, compared}
-use Rattle.findings.specs.Demand3.{OverfullTold, Told}
 use Rattle.findings.proofs.Exact.{exact}
 use Rattle.findings.proofs.ByKind.{only, unasked}
-use Rattle.findings.proofs.Told.{told}
+use Rattle.findings.proofs.Told.{OverfullTold, Told, told}
 
 module _ {ℓ} {A : Type ℓ} (p : A → Bool) where
   -- some element passes where the one at a place does

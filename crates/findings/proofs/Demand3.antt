@@ -11,19 +11,21 @@ use Rattle.area.specs.AreaTest.{areaOf, isSpans}
 use Rattle.bow_tie.specs.BowTie.{bowTieOf}
 use Rattle.snap.specs.Weld.{weldedBy, weldedAll}
 use Rattle.mesh.specs.Model.{Model, Raw, contains, TOPOLOGY, cellsOf}
-use Rattle.mesh.specs.Rings.{ringsOf, numbered}
+use Rattle.mesh.specs.Rings.{ringsOf, numbered, sameKey}
+use Rattle.mesh.specs.Lookup.{faceAt}
 use Rattle.mesh.specs.Acceptance.{modelRefusal, facesIn, workNeeded}
 use Rattle.findings.specs.Findings.{Rules, Finding, full}
 use Rattle.findings.specs.Rules.{bowOf, rulesWith, rulesOf, fullOf}
 use Rattle.findings.specs.Records.{fieldsOf, recordOf, keptOf, keptBytes}
 use Rattle.findings.specs.Check.{totalsOf, checkRefusal, Checking}
 use Rattle.findings.specs.Compared.{none, shares, namesPair, moved, reordered, compared}
-use Rattle.findings.specs.Demand3.{PartlyShared, PairIn, Reordering, Told, readBack, Below, Reported}
+use Rattle.findings.specs.Demand3.{PartlyShared, PairIn, Reordering, readBack, Below, Reported}
 use Rattle.findings.specs.declared.CheckAnswer.{CheckAnswer}
 use Rattle.findings.specs.declared.CheckAnswer.the-variants.{Report}
 use Rattle.findings.proofs.Exact.{exact}
 use Rattle.findings.proofs.ByKind.{only, unasked}
 use Rattle.findings.proofs.Means.{shares-means}
+use Rattle.findings.proofs.Told.{first-told}
 use Rattle.mesh.proofs.Accepts.{accepts, accepted}
 use Rattle.findings.proofs.Moved.{moved-accepts, same-work, reordered-cells}
 use Rattle.findings.proofs.Same.{read-back}
@@ -126,13 +128,14 @@ totals-reordered = same-total
 
 -- ---- what a record tells, so that comparing loses nothing
 
--- "an overfull face read as its nodes with all its owners": its key, owners, count and first two cells are those of the face whose number its record has; a pair's cells and common nodes are those of its two faces.
-pub record-tells : (m : Model) (x : Finding) → List·Memᴰ x (fullOf m) → Told (facesIn m) x
-record-tells = told-of
-
--- So a finding is read back from its record and the model's faces,
+-- "an overfull face read as its nodes with all its owners": a finding is read back from its record and the model's faces, so the key, the owners and the cells are those of the face whose number the record has;
 pub record-read-back : (m : Model) (x : Finding) → List·Memᴰ x (fullOf m) → x ≡ readBack (facesIn m) (fieldsOf x)
 record-read-back m x k = read-back (facesIn m) x (told-of m x k)
+
+-- that face is the first with its key ("a: first face", document 01);
+pub overfull-first : (m : Model) (x : Finding) → List·Memᴰ x (fullOf m) → fieldsOf x .kind ≡ 2
+    → (fieldsOf x .a < length (facesIn m)) × (any (sameKey (faceAt (facesIn m) (fieldsOf x .a))) (take (fieldsOf x .a) (facesIn m)) ≡ false)
+overfull-first m x k = first-told (facesIn m) x (told-of m x k)
 
 -- all its numbers fit 32 bits,
 pub record-fits : (m : Model) (x : Finding) → modelRefusal m ≡ 0 → List·Memᴰ x (fullOf m) → Below 4294967296 (fieldsOf x)

@@ -13,10 +13,10 @@ use Rattle.mesh.specs.Rings.{Cell, Face, facesFrom, facesOf, faces, numberFrom,
 use Rattle.mesh.specs.Lookup.{noFace, faceAt, ownersOf}
 use Rattle.findings.specs.Findings.{Rules, Finding, bowtie, overfull, partly, repeated, common, full}
 use Rattle.findings.specs.Records.{fieldsOf}
-use Rattle.findings.specs.Demand3.{OverfullTold, PartlyTold, Told, Below}
+use Rattle.findings.specs.Demand3.{Below}
 use Rattle.findings.proofs.Laws.{Every, every-mem, every-keep, every-getD, every-map-in, every-each}
 use Rattle.findings.proofs.ByKind.{every-full, every-bows, every-overs, every-partly, every-reps}
-use Rattle.findings.proofs.Told.{told}
+use Rattle.findings.proofs.Told.{OverfullTold, PartlyTold, Told, told}
 use Rattle.findings.proofs.Small.{Low}
 
 -- ---- common nodes are at most as many as a ring has

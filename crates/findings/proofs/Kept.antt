@@ -12,6 +12,7 @@ use Rattle.laws.specs.Lists.{each}
 use Rattle.laws.specs.Refusals.{refused, done, refusal, answer}
 use Rattle.laws.proofs.Tests.{tested}
 use Rattle.laws.proofs.ListLaws.{keep-length}
+use Rattle.laws.proofs.Tables.{answered-done}
 use Rattle.mesh.specs.Model.{Model, contains, TOPOLOGY, cellsOf}
 use Rattle.mesh.specs.Acceptance.{modelRefusal, checkTable}
 use Rattle.findings.specs.Findings.{Rules, Finding}
@@ -47,7 +48,7 @@ kept-fits m lent = omega arith
 
 -- so a check leaves as many bytes as were lent
 pub lent-length : (m : Model) (f f' w w' : List ℕ) (r : CheckAnswer) → Checking m f f' w w' r → length f' ≡ length f
-lent-length m f f' w w' r c = ap length (c .findingsAre) ∙ go (eqb (checkRefusal m w) 0)
+lent-length m f f' w w' r c = ap length (c .memory .findingsAre) ∙ go (eqb (checkRefusal m w) 0)
   where
     kept : List ℕ
     kept = keptBytes (rulesOf m) (totalsOf m (length f) .kept) (fullOf m)
@@ -56,26 +57,18 @@ lent-length m f f' w w' r c = ap length (c .findingsAre) ∙ go (eqb (checkRefus
     go true = omega (arith, length-append kept (drop (length kept) f), length-drop (length kept) f, kept-64 m (length f), kept-fits m (length f))
     go false = refl
 
--- an answer that is no refusal: nothing was refused, and it is that answer
-pub told-done : {A : Type 0} (n : ℕ) (a b : A) → done a ≡ answer n b → (eqb n 0 ≡ true) × (a ≡ b)
-told-done n a b e = go (tested (eqb n 0))
-  where
-    go : (eqb n 0 ≡ true) ⊎ (eqb n 0 ≡ false) → (eqb n 0 ≡ true) × (a ≡ b)
-    go (inl t) = let q : done a ≡ done b = e ∙ rw t in (t, cc)
-    go (inr t) = let q : done a ≡ refused n = e ∙ rw t in let z : _≡_ {A = ℕ} 0 1 = cc in absurd (omega arith)
-
 -- a report is what it should be
 pub report-is : (m : Model) (findings findings' work work' : List ℕ) (t k : ℕ) → Checking m findings findings' work work' (Report t k) → Reported m findings findings' t k
 unfolding totalsOf keptOf keptBytes
 report-is m findings findings' work work' t k c =
     let total : Totals = record { total = t; kept = k } in
-    let p = told-done (checkRefusal m work) total (totalsOf m (length findings)) (c .answered) in
+    let p = answered-done (checkRefusal m work) total (totalsOf m (length findings)) (c .answered) in
     let t-is : t ≡ length (fullOf m) = ap (λ (x : Totals). x .total) (p .1) in
     let k-is : k ≡ totalsOf m (length findings) .kept = ap (λ (x : Totals). x .kept) (p .1) in
     record {
       total = t-is;
       kept = k-is ∙ ap (λ (x : ℕ). min (m .cap) (min x (length findings / 64))) (sym t-is);
-      records = c .findingsAre ∙ rw (p .0, k-is);
+      records = c .memory .findingsAre ∙ rw (p .0, k-is);
     }
 
 -- answers with the same number and values are the same
@@ -84,7 +77,7 @@ told-same (Refused n) (Refused o) e = let q : n ≡ o = cc in ap Refused q
 told-same (Refused n) (Report t k) e = let z : _≡_ {A = ℕ} 0 1 = cc in absurd (omega arith)
 told-same (Report t k) (Refused n) e = let z : _≡_ {A = ℕ} 0 1 = cc in absurd (omega arith)
 told-same (Report t k) (Report u l) e =
-    let p = told-done 0 (record { total = t; kept = k }) (record { total = u; kept = l }) e in
+    let p = answered-done 0 (record { total = t; kept = k }) (record { total = u; kept = l }) e in
     ap₂ (λ (x y : ℕ). Report x y) (ap (λ (x : Totals). x .total) (p .1)) (ap (λ (x : Totals). x .kept) (p .1))
 
 -- an accepted model and its reordering are answered alike, for the same lent lengths

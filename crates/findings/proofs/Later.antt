@@ -12,10 +12,21 @@ use Rattle.laws.proofs.Tests.{tested, eqb-self}
 use Rattle.laws.proofs.ListLaws.{each-append, walk-append, any-append, any-map, keep-append, eql-self}
 use Rattle.mesh.specs.Rings.{Cell, Face, facesFrom, facesOf, faces, sameKey}
 use Rattle.mesh.proofs.Accepted.{rings-from}
-use Rattle.findings.specs.Findings.{Rules, Finding, repeated, overOf, overAt, partlyOf, pairAt, kind1, kind2, kind3, kind4, full}
-use Rattle.findings.specs.Later.{upTo, away}
+use Rattle.findings.specs.Findings.{Rules, Finding, bowtie, overfull, partly, repeated, overOf, overAt, partlyOf, pairAt, kind1, kind2, kind3, kind4, full}
 use Rattle.findings.proofs.Laws.{onlyIf-nil, keep-nothing, Every, every-map}
 use Rattle.findings.proofs.ByKind.{every-pair}
+
+module _ {ℓ κ} {A : Type ℓ} {B : Type κ} (h : List A → A → List A → List B) where
+  -- what a walk has given after i elements
+  unfoldable pub upTo : ℕ → List A → List B
+  upTo i l = walk (λ p x q. h p x (q ++ drop i l)) [] (take i l)
+
+-- a finding that names neither the cell c nor a key of its faces
+unfoldable pub away : Rules → Cell → Finding → Bool
+away R c (bowtie d) = not (eqb d (c .num))
+away R c (overfull c₁ c₂ f n k os) = not (any (λ r. eql k (sort leb r)) (R .rings (c .raw)))
+away R c (partly c₁ c₂ a b ns) = not (eqb c₁ (c .num) || eqb c₂ (c .num))
+away R c (repeated d a b) = not (eqb d (c .num))
 
 -- ---- one element at a time
 

@@ -22,12 +22,12 @@ use Rattle.findings.specs.Rules.{repeatsOf, rulesWith, rulesOf, cellsIn,
 use Rattle.findings.specs.Records.{fieldsOf, recordOf}
 use Rattle.findings.specs.Check.{checkRefusal}
 use Rattle.findings.specs.Compared.{none, shares, namesPair, withCells, reordered, compared}
-use Rattle.findings.specs.Demand3.{PartlyShared, Reordering, Told, Below}
+use Rattle.findings.specs.Demand3.{PartlyShared, Reordering, Below}
 use Rattle.findings.proofs.Laws.{Every, every-imp}
 use Rattle.findings.proofs.Reorder.{reordering}
 use Rattle.findings.proofs.Exact.{exact}
 use Rattle.findings.proofs.Means.{shares-means}
-use Rattle.findings.proofs.Told.{told}
+use Rattle.findings.proofs.Told.{Told, told}
 use Rattle.mesh.proofs.Accepts.{accepts}
 use Rattle.findings.proofs.Moved.{reordered-cells, same-work, check-refusal, moved-accepts}
 use Rattle.findings.proofs.Small.{Low, faces-few, cells-few, rings-short, repeats-low, cells-nodes, nodes-few}

@@ -10,7 +10,8 @@ use Rattle.geometry.specs.declared.Point.{Point}
 use Rattle.mesh.specs.Rings.{Face}
 use Rattle.findings.specs.Findings.{Rules, Finding, bowtie, overfull, partly, repeated}
 use Rattle.findings.specs.Records.{Fields, fieldsOf, centreIn, pointBytes, recordBytes, recordOf}
-use Rattle.findings.specs.Demand3.{Told, readBack, Below}
+use Rattle.findings.specs.Demand3.{readBack, Below}
+use Rattle.findings.proofs.Told.{Told}
 
 -- ---- bytes
 

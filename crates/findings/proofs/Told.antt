@@ -4,19 +4,47 @@ use mathlib.Core.Path.{_≡_, refl, sym, ap, ap₂, _∙_}
 use mathlib.Core.Logic.{_⊎_, inl, inr}
 use mathlib.Core.Bool.{Bool, true, false, not, _&&_}
 use mathlib.Core.List.{List, [], _∷_, _++_, map, List·Memᴰ}
+use native.Mathlib.Omega.{arith}
 use lib.Dec.{leb}
-use lib.ListN.{length, getD, length-map}
+use lib.ListN.{length, getD, take, length-map}
 use Rattle.laws.specs.Lists.{onlyIf, any, first, each, walk, keep}
 use Rattle.laws.proofs.Tests.{tested}
 use Rattle.laws.proofs.ListLaws.{keep-append, eql-self}
 use Rattle.mesh.specs.Model.{Raw}
 use Rattle.mesh.specs.Rings.{Cell, Face, facesFrom, facesOf, faces, numbered, sameKey, keyOf}
 use Rattle.mesh.specs.Lookup.{faceAt, ownersOf}
-use Rattle.findings.specs.Findings.{Rules, Finding, overfull, common, meets, overOf, overAt, meeting, partlyOf, pairAt, kind3, full}
-use Rattle.findings.specs.Demand3.{Told}
+use Rattle.findings.specs.Findings.{Rules, Finding, bowtie, overfull, partly, repeated, common, meets, overOf, overAt, meeting, partlyOf, pairAt, kind3, full}
+use Rattle.findings.specs.Records.{fieldsOf}
 use Rattle.findings.proofs.Laws.{keep-nothing, Every, every-append, every-onlyIf, every-walk-in, every-mem, every-split, every-first, every-each-parts, every-map-in, every-each}
 use Rattle.findings.proofs.Faces.{face-walk, at-place, before-place}
 use Rattle.findings.proofs.ByKind.{every-full, every-bow, every-rep}
+
+-- ---- what is told of a finding by the faces whose numbers it has
+
+-- an overfull face: its key, its owners, their number and the first two are those of the face of its number, which is the first with its key
+pub record OverfullTold (fs : List Face) (c₁ c₂ f n : ℕ) (k os : List ℕ) : Type 0 where
+  pub within : f < length fs
+  pub key : k ≡ keyOf (faceAt fs f)
+  pub owners : os ≡ ownersOf fs f
+  pub count : n ≡ length os
+  pub first : c₁ ≡ getD os 0 0
+  pub second : c₂ ≡ getD os 1 0
+  pub foremost : any (sameKey (faceAt fs f)) (take f fs) ≡ false
+
+-- a partly shared pair: its cells and common nodes are those of the faces of its numbers
+pub record PartlyTold (fs : List Face) (c₁ c₂ a b : ℕ) (ns : List ℕ) : Type 0 where
+  pub withinA : a < length fs
+  pub withinB : b < length fs
+  pub cellA : c₁ ≡ faceAt fs a .cell
+  pub cellB : c₂ ≡ faceAt fs b .cell
+  pub nodes : ns ≡ common (faceAt fs a .ring) (faceAt fs b .ring)
+
+-- of the other kinds the record has all
+unfoldable pub Told : List Face → Finding → Type 0
+Told fs (bowtie c) = Unit
+Told fs (overfull c₁ c₂ f n k os) = OverfullTold fs c₁ c₂ f n k os
+Told fs (partly c₁ c₂ a b ns) = PartlyTold fs c₁ c₂ a b ns
+Told fs (repeated c a b) = Unit
 
 -- a face has its own key
 same-self : (f : Face) → sameKey f f ≡ true
@@ -130,3 +158,11 @@ module _ (R : Rules) (cs : List Raw) where
 -- what any finding of the full list tells
 pub told : (R : Rules) (flags : ℕ) (cs : List Raw) (x : Finding) → List·Memᴰ x (full R flags (numbered (R .rings) cs)) → Told (faces (R .rings) (numbered (R .rings) cs)) x
 told R flags cs x m = every-mem (Told (faces (R .rings) (numbered (R .rings) cs))) m (told-full R cs flags)
+
+-- of an overfull face, that it is the first with its key
+pub first-told : (fs : List Face) (x : Finding) → Told fs x → fieldsOf x .kind ≡ 2 → (fieldsOf x .a < length fs) × (any (sameKey (faceAt fs (fieldsOf x .a))) (take (fieldsOf x .a) fs) ≡ false)
+unfolding Told fieldsOf
+first-told fs (bowtie c) t k = absurd (omega (arith, k))
+first-told fs (overfull c₁ c₂ f n ks os) t k = (t .within, t .foremost)
+first-told fs (partly c₁ c₂ a b ns) t k = absurd (omega (arith, k))
+first-told fs (repeated c a b) t k = absurd (omega (arith, k))

@@ -28,8 +28,12 @@ abbrev pub checkTold : CheckAnswer → Answer Totals
 checkTold (Refused n) = refused n
 checkTold (Report t k) = done (record { total = t; kept = k })
 
--- The check's promise: the answer; the first k records in the lent findings; the needed words of work, which end zero.
-pub record Checking (m : Model) (findings findings' work work' : List ℕ) (r : CheckAnswer) : Type 0 where
-  pub answered : checkTold r ≡ answer (checkRefusal m work) (totalsOf m (length findings))
+-- What a check leaves in lent memory: the first k records in the findings; the needed words of work, which end zero.
+pub record CheckMemory (m : Model) (findings findings' work work' : List ℕ) : Type 0 where
   pub findingsAre : findings' ≡ filled (checkRefusal m work) (keptBytes (rulesOf m) (totalsOf m (length findings) .kept) (fullOf m)) findings
   pub workIs : work' ≡ filled (checkRefusal m work) (replicate (workNeeded m) 0) work
+
+-- The check's promise: the answer, and lent memory.
+pub record Checking (m : Model) (findings findings' work work' : List ℕ) (r : CheckAnswer) : Type 0 where
+  pub answered : checkTold r ≡ answer (checkRefusal m work) (totalsOf m (length findings))
+  pub memory : CheckMemory m findings findings' work work'

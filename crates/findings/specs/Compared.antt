@@ -6,7 +6,7 @@ use lib.Dec.{leb, eqb}
 use lib.ListN.{length, getD}
 use Rattle.laws.specs.Lists.{any, each, sort}
 use Rattle.geometry.specs.declared.Point.{Point}
-use Rattle.mesh.specs.Model.{Model, Raw, cellsOf}
+use Rattle.mesh.specs.Model.{Model, modelOf, Raw, cellsOf}
 use Rattle.findings.specs.Findings.{Rules, Finding, bowtie, overfull, partly, repeated, meets}
 
 -- ---- the condition of a partly shared pair
@@ -43,15 +43,7 @@ endsFrom at (c ∷ cs) = (at + length (c .words)) ∷ endsFrom (at + length (c .
 -- the model with these cells, all else as it was
 unfoldable pub withCells : Model → List Raw → Model
 withCells m cs =
-    record {
-      coords = m .coords;
-      kinds = map (λ c. c .kind) cs;
-      ends = endsFrom 0 cs;
-      words = each (λ c. c .words) cs;
-      tolerance = m .tolerance;
-      flags = m .flags;
-      cap = m .cap;
-    }
+    modelOf (m .coords) (map (λ c. c .kind) cs) (endsFrom 0 cs) (each (λ c. c .words) cs) (m .tolerance) (m .flags) (m .cap)
 
 -- each cell's kind and words move, unchanged
 unfoldable pub reordered : List ℕ → Model → Model

@@ -6,9 +6,9 @@ use mathlib.Core.Logic.{_≢_}
 use mathlib.Core.Path.{_≡_}
 use lib.Dec.{eqb}
 use lib.ListN.{length, getD, take, drop}
-use Rattle.laws.specs.Lists.{any, each, upFrom}
+use Rattle.laws.specs.Lists.{each, upFrom}
 use Rattle.mesh.specs.Model.{Model, Raw, ascending, cellsOf}
-use Rattle.mesh.specs.Rings.{Face, keyOf, nodeSet, sameKey}
+use Rattle.mesh.specs.Rings.{Face, keyOf, nodeSet}
 use Rattle.mesh.specs.Lookup.{faceAt, ownersOf}
 use Rattle.findings.specs.Findings.{Rules, Finding, bowtie, overfull, partly, repeated, common}
 use Rattle.findings.specs.Rules.{rulesOf, fullOf}
@@ -49,31 +49,6 @@ pub record Reordering (m : Model) (σ : List ℕ) : Type 0 where
   pub ascends : ascending 0 (moved σ (cellsOf m)) ≡ true
 
 -- ---- what the record of a finding tells, with the model's faces
-
--- an overfull face: its key, its owners, their number and the first two are those of the face of its number, which is the first with its key
-pub record OverfullTold (fs : List Face) (c₁ c₂ f n : ℕ) (k os : List ℕ) : Type 0 where
-  pub within : f < length fs
-  pub key : k ≡ keyOf (faceAt fs f)
-  pub owners : os ≡ ownersOf fs f
-  pub count : n ≡ length os
-  pub first : c₁ ≡ getD os 0 0
-  pub second : c₂ ≡ getD os 1 0
-  pub foremost : any (sameKey (faceAt fs f)) (take f fs) ≡ false
-
--- a partly shared pair: its cells and common nodes are those of the faces of its numbers
-pub record PartlyTold (fs : List Face) (c₁ c₂ a b : ℕ) (ns : List ℕ) : Type 0 where
-  pub withinA : a < length fs
-  pub withinB : b < length fs
-  pub cellA : c₁ ≡ faceAt fs a .cell
-  pub cellB : c₂ ≡ faceAt fs b .cell
-  pub nodes : ns ≡ common (faceAt fs a .ring) (faceAt fs b .ring)
-
--- of the other kinds the record has all
-unfoldable pub Told : List Face → Finding → Type 0
-Told fs (bowtie c) = Unit
-Told fs (overfull c₁ c₂ f n k os) = OverfullTold fs c₁ c₂ f n k os
-Told fs (partly c₁ c₂ a b ns) = PartlyTold fs c₁ c₂ a b ns
-Told fs (repeated c a b) = Unit
 
 -- the finding read back from the fields of its record
 unfoldable pub readBack : List Face → Fields → Finding

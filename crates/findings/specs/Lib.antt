@@ -6,4 +6,3 @@ pub mod Check
 pub mod Candidates
 pub mod Compared
 pub mod Demand3
-pub mod Later

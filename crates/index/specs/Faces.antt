@@ -6,9 +6,8 @@ use mathlib.Core.List.{List, map}
 use mathlib.Core.Path.{_≡_}
 use lib.Dec.{eqb}
 use lib.ListN.{length, getD, take}
-use Rattle.laws.specs.Merging.{region}
+use Rattle.laws.specs.Merging.{region, Asc}
 use Rattle.laws.specs.Lists.{each, keep, upFrom, elem}
-use Rattle.laws.proofs.Ascending.{Asc}
 use Rattle.counting.specs.Counts.{times, below}
 use Rattle.index.specs.declared.Places.{Places}
 

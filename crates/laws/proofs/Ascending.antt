@@ -10,17 +10,9 @@ use borrow.Author.Tests.{ltb-true, leb-true, leb-false, eqb-true, eqb-false, lt-
 use lib.Dec.{leb, ltb, eqb}
 use lib.ListN.{length, getD}
 use Rattle.laws.specs.Lists.{onlyIf, keep, add, distinct, elem, upFrom}
+use Rattle.laws.specs.Merging.{Asc, Above}
 use Rattle.laws.proofs.Tests.{tested, both-ways, or-cases, or-swap, and-parts, eqb-self, split}
 use Rattle.laws.proofs.ListLaws.{keep-append, upFrom-snoc}
-
--- x is below all of l
-abbrev pub Above : ℕ → List ℕ → Type 0
-Above x l = (n : ℕ) → elem n l ≡ true → x < n
-
--- strictly ascending
-abbrev pub Asc : List ℕ → Type 0
-Asc [] = Unit {0}
-Asc (x ∷ xs) = Above x xs × Asc xs
 
 pub elem-add : (n x : ℕ) (l : List ℕ) → elem n (add leb x l) ≡ (eqb n x || elem n l)
 elem-add n x [] = refl

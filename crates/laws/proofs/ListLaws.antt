@@ -155,6 +155,12 @@ getD-upFrom i zero k d h = absurd (omega arith)
 getD-upFrom i (suc n) zero d h = sym (add-zero i)
 getD-upFrom i (suc n) (suc k) d h = getD-upFrom (suc i) n k d (omega arith) ∙ suc-add i k ∙ sym (add-suc i k)
 
+-- the k-th of f's values from i on
+pub getD-map-upFrom : {A : Type 0} (f : ℕ → A) (i n k : ℕ) (d : A) → k < n → getD (map f (upFrom i n)) k d ≡ f (i + k)
+getD-map-upFrom f i zero k d h = absurd (omega (arith, h))
+getD-map-upFrom f i (suc n) zero d h = ap f (sym (add-zero i))
+getD-map-upFrom f i (suc n) (suc k) d h = getD-map-upFrom f (suc i) n k d (omega (arith, h)) ∙ ap f (suc-add i k ∙ sym (add-suc i k))
+
 module _ {ℓ} {B : Type ℓ} where
   -- two functions that agree on these numbers give the same lists
   pub each-agree : (f g : ℕ → List B) (i n : ℕ) → ((k : ℕ) → i ≤ k → k < i + n → f k ≡ g k) → each f (upFrom i n) ≡ each g (upFrom i n)

@@ -1,13 +1,15 @@
 -- A run of stores, `sets l o xs`: how it grows by one, and what is read after it. A law asks that the run is within the list only where it must.
 use mathlib.Core.Path.{_≡_, refl, sym, ap, _∙_}
 use mathlib.Core.List.{List, [], _∷_, _++_, append-assoc, append-nil}
-use Prim.Native.Nat.{ℕ, zero, suc, _+_, _-_, _≤_, _<_}
+use Prim.Native.Nat.{ℕ, zero, suc, _+_, _-_, _≤_, _<_, min}
 use native.Mathlib.Nat.{add-zero, zero-add, add-suc, suc-add}
 use native.Mathlib.Numerals.{add-one}
 use native.Mathlib.Omega.{arith}
-use lib.ListN.{length, getD, set, take, drop, length-set, length-drop, take-append-drop}
+use mathlib.Core.Logic.{_⊎_, inl, inr}
+use lib.ListN.{length, getD, set, take, drop, replicate, length-set, length-drop, length-append, length-replicate, take-append-drop}
 use Rattle.laws.specs.Merging.{region}
-use lib.Seq.{slice, sets, sets-eq, length-sets, set-set, set-comm, getD-take, getD-drop, getD-set-same, drop-set-add, take-suc-set, take-add, take-take, drop-drop, take-suc, length-take-le, getD-set-other, take-set-le, drop-set-lt, drop-at, take-append-seam, drop-length}
+use Rattle.laws.proofs.Tests.{split}
+use lib.Seq.{slice, sets, sets-eq, length-sets, set-set, set-comm, getD-take, getD-drop, getD-set-same, drop-set-add, take-suc-set, take-add, take-take, drop-drop, take-suc, length-take-le, getD-set-other, take-set-le, drop-set-lt, drop-at, take-append-seam, drop-append-seam, take-all, drop-length}
 
 module _ {A : Type 0} where
   -- one store more
@@ -214,3 +216,21 @@ module _ {A : Type 0} where
       sym (sets-eq new l o (omega arith)
       ∙ append-assoc (take o l) new (drop (o + length new) l)
       ∙ ap (λ (x : List A). take o l ++ (new ++ x)) (ap (λ (x : ℕ). drop x l) (sym e) ∙ sym (drop-drop (o + n - o) o l)))
+
+  -- the first k of a list, k cut down to its length
+  pub take-least : (k : ℕ) (l : List A) → take (min k (length l)) l ≡ take k l
+  take-least k l = go (split k (length l))
+    where
+      go : (k < length l) ⊎ (length l ≤ k) → take (min k (length l)) l ≡ take k l
+      go (inl h) = let e : min k (length l) ≡ k = omega (arith, h) in ap (λ (i : ℕ). take i l) e
+      go (inr h) = let e : min k (length l) ≡ length l = omega (arith, h) in ap (λ (i : ℕ). take i l) e ∙ take-all (length l) l (omega arith) ∙ sym (take-all k l h)
+
+-- the first n words were lent out, came back as `part`, and are zero now
+pub zero-front : (work part work' : List ℕ) (n : ℕ) → n ≤ length work → length part ≡ n → work' ≡ sets (part ++ drop n work) 0 (replicate n 0)
+    → work' ≡ replicate n 0 ++ drop (length (replicate {A = ℕ} n 0)) work
+zero-front work part work' n h e p =
+    let zeros = length-replicate {A = ℕ} n 0 in
+    let long : length (part ++ drop n work) ≡ length work = length-append part (drop n work) ∙ omega (arith, e, length-drop n work, h) in
+    p
+    ∙ sets-front (part ++ drop n work) (replicate n 0) (omega (arith, zeros, long, h))
+    ∙ ap (λ (l : List ℕ). replicate n 0 ++ l) (ap (λ (k : ℕ). drop k (part ++ drop n work)) (zeros ∙ sym e) ∙ drop-append-seam part (drop n work) ∙ ap (λ (k : ℕ). drop k work) (sym zeros))

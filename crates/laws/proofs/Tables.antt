@@ -4,10 +4,12 @@ use mathlib.Core.Path.{_≡_, refl, sym, ap, _∙_}
 use mathlib.Core.Logic.{_⊎_, inl, inr, _≢_}
 use mathlib.Core.Bool.{Bool, true, false, cond}
 use mathlib.Core.List.{List, [], _∷_, _++_}
-use borrow.Author.Tests.{ne-eqb}
+use native.Mathlib.Omega.{arith}
+use borrow.Author.Tests.{ne-eqb, eqb-true}
+use lib.Dec.{eqb}
 use lib.ListN.{length, drop}
 use Rattle.laws.specs.Lists.{any}
-use Rattle.laws.specs.Refusals.{refusal, filled}
+use Rattle.laws.specs.Refusals.{refused, done, refusal, answer, filled}
 use Rattle.laws.proofs.Tests.{tested, or-none}
 
 -- a row's reason
@@ -58,3 +60,21 @@ refusal-second a b n z = clear-append a b (refusal-clear a n z)
 -- a list that a refusal leaves as it was
 pub unfilled : {A : Type 0} (n m : ℕ) (xs l : List A) → n ≡ m → m ≢ 0 → l ≡ filled n xs l
 unfilled n m xs l h p = sym (ap (λ (k : ℕ). filled k xs l) h ∙ ap (λ (b : Bool). cond b (xs ++ drop (length xs) l) l) (ne-eqb m 0 p))
+
+-- ---- an answer taken apart
+
+-- a refusal: its number is the table's, and not 0
+pub answered-refused : {A : Type 0} (n k : ℕ) (a : A) → refused n ≡ answer k a → (n ≡ k) × (eqb k 0 ≡ false)
+answered-refused n k a e = go (tested (eqb k 0))
+  where
+    go : (eqb k 0 ≡ true) ⊎ (eqb k 0 ≡ false) → (n ≡ k) × (eqb k 0 ≡ false)
+    go (inl t) = let q : refused n ≡ done a = e ∙ rw t in let z : _≡_ {A = ℕ} 0 1 = cc in absurd (omega arith)
+    go (inr t) = let q : refused n ≡ refused k = e ∙ rw t in (cc, t)
+
+-- no refusal: nothing was refused, and it is the value
+pub answered-done : {A : Type 0} (n : ℕ) (a b : A) → done a ≡ answer n b → (n ≡ 0) × (a ≡ b)
+answered-done n a b e = go (tested (eqb n 0))
+  where
+    go : (eqb n 0 ≡ true) ⊎ (eqb n 0 ≡ false) → (n ≡ 0) × (a ≡ b)
+    go (inl t) = let q : done a ≡ done b = e ∙ rw t in (eqb-true n 0 t, cc)
+    go (inr t) = let q : done a ≡ refused n = e ∙ rw t in let z : _≡_ {A = ℕ} 0 1 = cc in absurd (omega arith)

@@ -63,6 +63,11 @@ module _ {ℓ} {A : Type ℓ} (le : A → A → Bool) where
   distinct [] = []
   distinct (x ∷ xs) = add x (distinct xs)
 
+-- P holds of each element
+abbrev pub All : {A : Type 0} → (A → Type 0) → List A → Type 0
+All P [] = Unit {0}
+All P (x ∷ xs) = P x × All P xs
+
 -- x is in l
 abbrev pub elem : ℕ → List ℕ → Bool
 elem x l = any (eqb x) l

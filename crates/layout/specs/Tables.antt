@@ -25,6 +25,10 @@ keyRow l t g = rowOf (l .rows) (l .keys) t g
 abbrev pub firstOf : Layout → List ℕ → ℕ → ℕ
 firstOf l t c = getD t (l .firsts + c) 0
 
+-- how many faces cell c has
+abbrev pub faceCount : Layout → List ℕ → ℕ → ℕ
+faceCount l t c = firstOf l t (c + 1) - firstOf l t c
+
 -- face g
 unfoldable pub faceRow : Layout → List ℕ → ℕ → Face
 faceRow l t g = record { num = g; cell = cellOf (l .at) t g; ring = ringRow l t g }

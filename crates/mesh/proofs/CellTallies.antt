@@ -73,7 +73,7 @@ nine n before c = (λ e. omega arith, (λ e. omega arith, (λ e. omega arith, tt
 pub total-append : (a b : List (List ℕ)) → ringTotal (a ++ b) ≡ ringTotal a + ringTotal b
 total-append a b = ap length (each-append (λ (r : List ℕ). r) a b) ∙ length-append (each (λ (r : List ℕ). r) a) (each (λ (r : List ℕ). r) b)
 
-module _ (kinds ends words : List ℕ) (n f w at before i : ℕ) (r : Counting kinds ends words n f w at before i) (same : length kinds ≡ length ends) (more : i < length kinds) where
+module _ {kinds ends words : List ℕ} {n f w at before i : ℕ} (r : Counting kinds ends words n f w at before i) (same : length kinds ≡ length ends) (more : i < length kinds) where
   abbrev cell : Raw
   cell = cellWith (getD kinds i 0) (take (getD ends i 0 - at) (drop at words))
 
@@ -114,19 +114,19 @@ module _ (kinds ends words : List ℕ) (n f w at before i : ℕ) (r : Counting k
       }
 
   -- the same, where the end is read
-  pub refused-at : (e : ℕ) → e ≡ getD ends i 0 → (t : CellTally) → CellCounted n before (cellWith (getD kinds i 0) (take (e - at) (drop at words))) t → t .refusal ≢ 0 → t .refusal ≡ refusal (cellsTable n 0 (cellsFrom 0 kinds ends words))
-  refused-at e is t c z = refused-here t (subst (λ (k : ℕ). CellCounted n before (cellWith (getD kinds i 0) (take (k - at) (drop at words))) t) is c) z
+  pub refused-at : {e : ℕ} → e ≡ getD ends i 0 → (t : CellTally) → CellCounted n before (cellWith (getD kinds i 0) (take (e - at) (drop at words))) t → t .refusal ≢ 0 → t .refusal ≡ refusal (cellsTable n 0 (cellsFrom 0 kinds ends words))
+  refused-at is t c z = refused-here t (subst (λ (k : ℕ). CellCounted n before (cellWith (getD kinds i 0) (take (k - at) (drop at words))) t) is c) z
 
-  pub counting-at : (e : ℕ) → e ≡ getD ends i 0 → (t : CellTally) → CellCounted n before (cellWith (getD kinds i 0) (take (e - at) (drop at words))) t → t .refusal ≡ 0
+  pub counting-at : {e : ℕ} → e ≡ getD ends i 0 → (t : CellTally) → CellCounted n before (cellWith (getD kinds i 0) (take (e - at) (drop at words))) t → t .refusal ≡ 0
       → Counting kinds ends words n (f + t .faces) (w + t .words) e (getD kinds i 0) (i + 1)
-  counting-at e is t c z =
+  counting-at is t c z =
       subst (λ (k : ℕ). Counting kinds ends words n (f + t .faces) (w + t .words) k (getD kinds i 0) (i + 1)) (sym is)
       (counting-next t (subst (λ (k : ℕ). CellCounted n before (cellWith (getD kinds i 0) (take (k - at) (drop at words))) t) is c) z)
 
 -- no cell is left
-pub counting-end : (kinds ends words : List ℕ) (n f w at before i : ℕ) (t : CellTally) → Counting kinds ends words n f w at before i → length kinds ≤ 16384 → length words ≤ 262144 → length kinds ≤ i → t .refusal ≡ 0 → t .faces ≡ f → t .words ≡ w
+pub counting-end : {kinds ends words : List ℕ} {n f w at before i : ℕ} (t : CellTally) → Counting kinds ends words n f w at before i → length kinds ≤ 16384 → length words ≤ 262144 → length kinds ≤ i → t .refusal ≡ 0 → t .faces ≡ f → t .words ≡ w
     → CellsCounted n (cellsFrom 0 kinds ends words) t
-counting-end kinds ends words n f w at before i t r x y h a b c =
+counting-end {kinds} {ends} {words} {n} {f} {w} {at} {before} {i} t r x y h a b c =
     let d : left kinds ends words at i ≡ [] = ap (λ (k : List ℕ). cellsFrom at k (drop i ends) (drop at words)) (drop-of-length-le kinds h) in
     record {
       refusal = a ∙ ap (λ (l : List Raw). refusal (cellsTable n before l)) (sym d) ∙ r .table;

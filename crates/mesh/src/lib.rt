@@ -19,6 +19,9 @@ impl Checks {
 
     pub const BUTTERFLY: Checks = Checks(2);
 
+    // Every check.
+    pub const ALL: Checks = Checks(3);
+
     pub fn contains(self, other: Checks) -> bool
         ensures { λ r. ⌜ r ≡ containsOf (self .0) (other .0) ⌝ }
     {

@@ -11,7 +11,7 @@ use lib.ListN.{length, take, drop, length-drop, take-append-drop}
 use lib.Ieee.{Float, nan, inf, fin, isNan, lt, le, eq}
 use borrow.Author.Tests.{eqb-true, eqb-false, ltb-false, leb-false, not-false}
 use Rattle.laws.specs.Limits.{coordinateLeast, coordinateMost, flagLimit}
-use Rattle.laws.specs.Lists.{any}
+use Rattle.laws.specs.Lists.{any, All}
 use Rattle.laws.specs.Refusals.{refusal}
 use Rattle.laws.proofs.Tables.{refusal-first, refusal-second}
 use Rattle.laws.proofs.Tests.{tested, clash, and-parts, or-none}
@@ -23,7 +23,6 @@ use Rattle.mesh.specs.Acceptance.{endsOff, kindOff, countWrong, nodeOff, cellTa
 use Rattle.mesh.specs.Steps.{cellWith}
 use Rattle.mesh.proofs.CellTallies.{ends-most, nine}
 use Rattle.mesh.proofs.Accepted.{Shaped, shaped}
-use Rattle.model_file.specs.Held.{All}
 use Rattle.model_file.proofs.Numbers.{all-append}
 use Rattle.model_file.proofs.Fields.{Word}
 use Rattle.model_file.proofs.Layouts.{Real}
@@ -36,7 +35,7 @@ row-none number true n z h = absurd (z h)
 row-none number false n z h = (refl, h)
 
 -- the first table refuses nothing
-table-none : (a b : List (ℕ × Bool)) → refusal (a ++ b) ≡ 0 → refusal a ≡ 0
+pub table-none : (a b : List (ℕ × Bool)) → refusal (a ++ b) ≡ 0 → refusal a ≡ 0
 table-none a b h = go (tested (eqb (refusal a) 0))
   where
     go : (eqb (refusal a) 0 ≡ true) ⊎ (eqb (refusal a) 0 ≡ false) → refusal a ≡ 0

@@ -8,7 +8,8 @@ use lib.Seq.{take-at, drop-at, length-take-le}
 use lib.Ieee.{Float}
 use Rattle.model_file.specs.File.{nodeRecords, moreRecords, chop, records, lastOf}
 use Rattle.model_file.specs.Steps.{join, cells}
-use Rattle.model_file.specs.Held.{All, Byte}
+use Rattle.laws.specs.Lists.{All}
+use Rattle.model_file.specs.Held.{Byte}
 use Rattle.model_file.proofs.Numbers.{all-append, all-take, all-drop}
 use Rattle.model_file.proofs.Layouts.{word-length}
 

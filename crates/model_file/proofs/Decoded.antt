@@ -14,7 +14,8 @@ use Rattle.laws.proofs.Tests.{and-parts, clash}
 use Rattle.mesh.specs.Steps.{cellWith}
 use Rattle.model_file.specs.Records.{wordsAt, wordRecord, cellRecord, moreRecord, letter, byte1, count, coordsIn, kindsIn, wordsIn, endsIn, stage, wordsRight, recordOff}
 use Rattle.model_file.specs.Steps.{cells, judge}
-use Rattle.model_file.specs.Held.{All, Byte}
+use Rattle.laws.specs.Lists.{All}
+use Rattle.model_file.specs.Held.{Byte}
 use Rattle.model_file.specs.File.{nodeRecords, moreRecords, cellRecords, coordsOf, kindsOf, wordsOf, endsOf, opens, lastOf}
 use Rattle.model_file.specs.declared.Letter.{Letter}
 use Rattle.model_file.specs.declared.Letter.the-variants.{Node, Cell, More, Last, Other}

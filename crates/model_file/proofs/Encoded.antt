@@ -10,7 +10,7 @@ use lib.Seq.{length-take-le}
 use lib.Dec.{eqb, ltb}
 use lib.Ieee.{Float}
 use borrow.Author.Tests.{eq-eqb, lt-ltb, eqb-true, ltb-false, not-false}
-use Rattle.laws.specs.Lists.{onlyIf}
+use Rattle.laws.specs.Lists.{onlyIf, All}
 use Rattle.laws.proofs.Tests.{or-none}
 use Rattle.mesh.specs.Acceptance.{endsOff}
 use Rattle.mesh.specs.Steps.{cellWith}
@@ -18,7 +18,7 @@ use Rattle.mesh.proofs.CellTallies.{ends-most}
 use Rattle.model_file.specs.Records.{lastRecord}
 use Rattle.model_file.specs.File.{nodeRecords, moreRecords, cellRecords, coordsOf, kindsOf, wordsOf, endsOf}
 use Rattle.model_file.specs.Steps.{cells, judge}
-use Rattle.model_file.specs.Held.{All, Fits}
+use Rattle.model_file.specs.Held.{Fits}
 use Rattle.model_file.proofs.Numbers.{all-take, all-drop}
 use Rattle.model_file.proofs.Judgement.{stage-lt}
 use Rattle.model_file.proofs.Fields.{Word, words-bytes}

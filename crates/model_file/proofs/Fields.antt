@@ -13,7 +13,8 @@ use Rattle.laws.proofs.Tests.{tested}
 use Rattle.laws.proofs.ByteLaws.{number-bytes}
 use Rattle.mesh.specs.Rings.{separator}
 use Rattle.model_file.specs.Records.{narrow, widen, wordBytes, wordsAt}
-use Rattle.model_file.specs.Held.{All, Byte}
+use Rattle.laws.specs.Lists.{All}
+use Rattle.model_file.specs.Held.{Byte}
 use Rattle.model_file.proofs.Numbers.{bytes-number}
 
 -- a word that 16 bits can hold: a node's number, or the separator

@@ -16,7 +16,8 @@ use Rattle.laws.proofs.Tests.{tested, and-parts}
 use Rattle.laws.proofs.ByteLaws.{number-bytes}
 use Rattle.floats.specs.Floats.{floatOf, floatBytes}
 use Rattle.model_file.specs.Records.{wordBytes, wordsAt, nodeRecord, wordRecord, lastRecord, letterOf, letter, byte1, count, floatAt, capIn, coordsIn, wordsRight, recordOff}
-use Rattle.model_file.specs.Held.{All, Byte, Fits}
+use Rattle.laws.specs.Lists.{All}
+use Rattle.model_file.specs.Held.{Byte, Fits}
 use Rattle.model_file.specs.declared.Letter.{Letter}
 use Rattle.model_file.specs.declared.Letter.the-variants.{Node, Cell, More, Last, Other}
 use Rattle.model_file.proofs.Numbers.{bytes-number, number-lt, zeros-true, zeros-replicate, all-take, all-drop}

@@ -5,13 +5,14 @@ use mathlib.Core.List.{List, [], _∷_, _++_}
 use mathlib.Core.Bool.{true}
 use native.Mathlib.Nat.{pow-suc}
 use native.Mathlib.Omega.{arith}
-use lib.ListN.{length, take, drop, replicate}
+use lib.ListN.{length, getD, take, drop, replicate}
 use lib.Seq.{slice, slice-empty}
 use lib.Dec.{eqb}
 use borrow.Author.Tests.{eqb-true}
 use Rattle.laws.specs.Bytes.{number, bytes, zeros}
 use Rattle.laws.proofs.Tests.{and-parts}
-use Rattle.model_file.specs.Held.{All, Byte}
+use Rattle.laws.specs.Lists.{All}
+use Rattle.model_file.specs.Held.{Byte}
 
 -- bytes come back out of their number
 pub bytes-number : (l : List ℕ) → All Byte l → bytes (length l) (number l) ≡ l
@@ -44,8 +45,12 @@ zeros-replicate (suc n) = zeros-replicate n
 pub zeros-end : (i e : ℕ) (s : List ℕ) → e ≤ i → i ≤ e → zeros (slice i e s) ≡ true
 zeros-end i e s h k = let q : i ≡ e = omega arith in rw q (ap zeros (slice-empty e s))
 
--- what holds of each element, of parts and wholes
+-- what holds of each element, by its place, of parts and wholes
 module _ {A : Type 0} (P : A → Type 0) where
+  pub all-known : (d : A) (l : List A) → ((i : ℕ) → P (getD l i d)) → All P l
+  all-known d [] h = tt
+  all-known d (x ∷ l) h = (h 0, all-known d l (λ i. h (suc i)))
+
   pub all-append : (xs ys : List A) → All P xs → All P ys → All P (xs ++ ys)
   all-append [] ys h k = k
   all-append (x ∷ xs) ys h k = (h .0, all-append xs ys (h .1) k)

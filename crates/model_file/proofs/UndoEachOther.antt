@@ -17,7 +17,8 @@ use Rattle.mesh.specs.Acceptance.{modelRefusal}
 use Rattle.model_file.specs.Records.{lastRecord, floatAt, byte1, capIn}
 use Rattle.model_file.specs.File.{nodeRecords, recordsOf, records, lastOf, coordsOf, kindsOf, wordsOf, endsOf, encode, decode, lengthOff, fileTable}
 use Rattle.model_file.specs.Steps.{join, cells, judge}
-use Rattle.model_file.specs.Held.{All, Byte, Held}
+use Rattle.laws.specs.Lists.{All}
+use Rattle.model_file.specs.Held.{Byte, Held}
 use Rattle.model_file.proofs.Numbers.{all-append}
 use Rattle.model_file.proofs.Layouts.{Real, last-cap, last-tolerance, last-back}
 use Rattle.model_file.proofs.Chop.{Whole, chop-whole, chop-bytes, join-chop, records-join, length-join, last-snoc, all-last, nodes-whole, nodes-few, cells-whole, cells-few}

@@ -7,13 +7,13 @@ use lib.ListN.{length, getD, take, drop}
 use lib.Ieee.{Float}
 use Rattle.laws.specs.Limits.{recordLimit}
 use Rattle.laws.specs.Lists.{each, last}
-use Rattle.mesh.specs.Model.{Model, Raw, cellsOf}
-use Rattle.model_file.specs.Records.{wordsMost, nodeRecord, cellRecord, moreRecord, lastRecord, letter, byte1, floatAt, capIn, coordsIn, kindsIn, wordsIn, endsIn, stage, misplaced, recordOff}
+use Rattle.mesh.specs.Model.{Model, Raw, modelOf, cellsOf}
+use Rattle.model_file.specs.Records.{wordsMost, nodeRecord, cellRecord, moreRecord, lastRecord, letter, byte1, floatAt, capIn, byLetter, coordsIn, kindsIn, wordsIn, endsIn, stage, misplaced, recordOff}
 use Rattle.model_file.specs.declared.Letter.{Letter}
-use Rattle.model_file.specs.declared.Letter.the-variants.{Node, Cell, More, Last, Other}
 
 -- ---- from a model to its file
 
+-- an N for each three coordinates
 abbrev pub nodeRecords : List Float → List (List ℕ)
 nodeRecords [] = []
 nodeRecords (x ∷ []) = []
@@ -40,6 +40,7 @@ encode m = each (λ r. r) (recordsOf m)
 
 -- ---- from bytes to the model
 
+-- bytes cut into n records
 abbrev pub chop : ℕ → List ℕ → List (List ℕ)
 chop zero s = []
 chop (suc n) s = take 32 s ∷ chop n (drop 32 s)
@@ -48,22 +49,21 @@ chop (suc n) s = take 32 s ∷ chop n (drop 32 s)
 abbrev pub records : List ℕ → List (List ℕ)
 records s = chop (length s / 32) s
 
+-- all coordinates
 abbrev pub coordsOf : List (List ℕ) → List Float
 coordsOf rs = each (λ r. coordsIn (letter r) r) rs
 
+-- all kinds
 abbrev pub kindsOf : List (List ℕ) → List ℕ
 kindsOf rs = each (λ r. kindsIn (letter r) r) rs
 
+-- all words
 abbrev pub wordsOf : List (List ℕ) → List ℕ
 wordsOf rs = each (λ r. wordsIn (letter r) r) rs
 
--- a cell has begun
+-- a cell has begun, with a C
 abbrev pub opens : Letter → Bool → Bool
-opens Node begun = begun
-opens Cell begun = true
-opens More begun = begun
-opens Last begun = begun
-opens Other begun = begun
+opens l begun = byLetter begun true begun begun begun l
 
 -- the ends, where a cell has begun or not, after so many words
 abbrev pub endsOf : Bool → ℕ → List (List ℕ) → List ℕ
@@ -77,15 +77,7 @@ lastOf rs = getD (last rs) 0 []
 -- the model of a file's bytes
 unfoldable pub decode : List ℕ → Model
 decode s =
-    record {
-      coords = coordsOf (records s);
-      kinds = kindsOf (records s);
-      ends = endsOf false 0 (records s);
-      words = wordsOf (records s);
-      tolerance = floatAt 8 (lastOf (records s));
-      flags = byte1 (lastOf (records s));
-      cap = capIn (lastOf (records s));
-    }
+    modelOf (coordsOf (records s)) (kindsOf (records s)) (endsOf false 0 (records s)) (wordsOf (records s)) (floatAt 8 (lastOf (records s))) (byte1 (lastOf (records s))) (capIn (lastOf (records s)))
 
 -- ---- why bytes are refused
 

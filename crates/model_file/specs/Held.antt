@@ -1,15 +1,11 @@
 -- What the types of lent slices say of a model and of bytes: each value fits its type.
 use Prim.Native.Nat.{ℕ, _<_}
-use mathlib.Core.List.{List, [], _∷_}
 use lib.Dec.{T}
 use lib.Ieee.{Float, binary64, fits}
+use Rattle.laws.specs.Lists.{All}
 use Rattle.mesh.specs.Model.{Model}
 
--- P holds of each element
-abbrev pub All : {A : Type 0} → (A → Type 0) → List A → Type 0
-All P [] = Unit {0}
-All P (x ∷ xs) = P x × All P xs
-
+-- a value of a u8
 abbrev pub Byte : ℕ → Type 0
 Byte b = b < 256
 

@@ -19,12 +19,15 @@ use Rattle.model_file.specs.declared.Letter.the-variants.{Node, Cell, Mo
 abbrev pub wordsMost : ℕ
 wordsMost = 14
 
+-- a word of the model in the file
 abbrev pub narrow : ℕ → ℕ
 narrow w = cond (eqb w separator) 65535 w
 
+-- a word of the file in the model
 abbrev pub widen : ℕ → ℕ
 widen w = cond (eqb w 65535) separator w
 
+-- the bytes of words
 abbrev pub wordBytes : List ℕ → List ℕ
 wordBytes ws = each (λ w. bytes 2 (narrow w)) ws
 
@@ -57,9 +60,11 @@ lastRecord flags cap tolerance = 84 ∷ flags ∷ (bytes 2 cap ++ (replicate 4 0
 
 -- ---- the fields
 
+-- what a record is, by its byte 0
 abbrev pub letterOf : ℕ → Letter
 letterOf b = cond (eqb b 78) Node (cond (eqb b 67) Cell (cond (eqb b 75) More (cond (eqb b 84) Last Other)))
 
+-- a record's letter
 abbrev pub letter : List ℕ → Letter
 letter r = letterOf (getD r 0 0)
 
@@ -67,73 +72,58 @@ letter r = letterOf (getD r 0 0)
 abbrev pub byte1 : List ℕ → ℕ
 byte1 r = getD r 1 0
 
+-- a record's word count
 abbrev pub count : List ℕ → ℕ
 count r = getD r 2 0
 
+-- the f64 at a byte
 abbrev pub floatAt : ℕ → List ℕ → Float
 floatAt a r = floatOf (slice a (a + 8) r)
 
+-- the cap of T
 abbrev pub capIn : List ℕ → ℕ
 capIn r = number (slice 2 4 r)
 
+-- one of five values, by the letter: N, C, K, T, any other
+abbrev pub byLetter : {A : Type 0} → A → A → A → A → A → Letter → A
+byLetter n c k t other Node = n
+byLetter n c k t other Cell = c
+byLetter n c k t other More = k
+byLetter n c k t other Last = t
+byLetter n c k t other Other = other
+
 -- ---- what a record adds to the model
 
+-- N: three coordinates
 abbrev pub coordsIn : Letter → List ℕ → List Float
-coordsIn Node r = floatAt 8 r ∷ floatAt 16 r ∷ floatAt 24 r ∷ []
-coordsIn Cell r = []
-coordsIn More r = []
-coordsIn Last r = []
-coordsIn Other r = []
+coordsIn l r = byLetter (floatAt 8 r ∷ floatAt 16 r ∷ floatAt 24 r ∷ []) [] [] [] [] l
 
+-- C: a kind
 abbrev pub kindsIn : Letter → List ℕ → List ℕ
-kindsIn Node r = []
-kindsIn Cell r = byte1 r ∷ []
-kindsIn More r = []
-kindsIn Last r = []
-kindsIn Other r = []
+kindsIn l r = byLetter [] (byte1 r ∷ []) [] [] [] l
 
+-- C and K: words
 abbrev pub wordsIn : Letter → List ℕ → List ℕ
-wordsIn Node r = []
-wordsIn Cell r = wordsAt (count r) (drop 4 r)
-wordsIn More r = wordsAt (count r) (drop 4 r)
-wordsIn Last r = []
-wordsIn Other r = []
+wordsIn l r = byLetter [] (wordsAt (count r) (drop 4 r)) (wordsAt (count r) (drop 4 r)) [] [] l
 
--- an open cell ends, after so many words, where the next begins or T stands
+-- C and T: an open cell ends, after so many words, where the next begins or T stands
 abbrev pub endsIn : Letter → Bool → ℕ → List ℕ
-endsIn Node begun at = []
-endsIn Cell begun at = onlyIf begun (at ∷ [])
-endsIn More begun at = []
-endsIn Last begun at = onlyIf begun (at ∷ [])
-endsIn Other begun at = []
+endsIn l begun at = byLetter [] (onlyIf begun (at ∷ [])) [] (onlyIf begun (at ∷ [])) [] l
 
 -- ---- what is refused of a record
 
 -- where a file stands: 0 at its start and after an N, 1 after a cell's record, 2 after a full one, 3 after T
 abbrev pub stage : Letter → List ℕ → ℕ
-stage Node r = 0
-stage Cell r = cond (eqb (count r) wordsMost) 2 1
-stage More r = cond (eqb (count r) wordsMost) 2 1
-stage Last r = 3
-stage Other r = 3
+stage l r = byLetter 0 (cond (eqb (count r) wordsMost) 2 1) (cond (eqb (count r) wordsMost) 2 1) 3 3 l
 
 -- 2: letter unknown or misplaced
 abbrev pub misplaced : ℕ → Letter → Bool
-misplaced s Node = not (eqb s 0)
-misplaced s Cell = not (ltb s 3)
-misplaced s More = not (eqb s 2)
-misplaced s Last = not (ltb s 3)
-misplaced s Other = true
+misplaced s l = byLetter (not (eqb s 0)) (not (ltb s 3)) (not (eqb s 2)) (not (ltb s 3)) true l
 
 -- a count from `least` on, byte 3 and the unused words zero
 abbrev pub wordsRight : ℕ → List ℕ → Bool
-wordsRight least r =
-    leb least (count r) && (leb (count r) wordsMost && (eqb (getD r 3 0) 0 && zeros (slice (4 + 2 * count r) 32 r)))
+wordsRight least r = leb least (count r) && (leb (count r) wordsMost && (eqb (getD r 3 0) 0 && zeros (slice (4 + 2 * count r) 32 r)))
 
 -- 3: a count or zero byte wrong
 abbrev pub recordOff : Letter → List ℕ → Bool
-recordOff Node r = not (zeros (slice 1 8 r))
-recordOff Cell r = not (wordsRight 0 r)
-recordOff More r = not (eqb (byte1 r) 0 && wordsRight 1 r)
-recordOff Last r = not (zeros (slice 4 8 r) && zeros (slice 16 32 r))
-recordOff Other r = false
+recordOff l r = byLetter (not (zeros (slice 1 8 r))) (not (wordsRight 0 r)) (not (eqb (byte1 r) 0 && wordsRight 1 r)) (not (zeros (slice 4 8 r) && zeros (slice 16 32 r))) false l

@@ -8,16 +8,19 @@ use native.Mathlib.Nat.{zero-add}
 use native.Mathlib.Omega.{arith}
 use lib.Dec.{eqb, ltb}
 use lib.ListN.{length, take, drop, length-drop}
-use lib.Seq.{sets, sets-eq, take-all, drop-drop}
+use lib.Seq.{sets, sets-eq, take-all, drop-drop, length-take-le}
 use lib.Ieee.{Float}
 use borrow.Author.Tests.{eqb-true, eqb-false, ltb-false, ne-eqb, not-false}
 use Rattle.laws.specs.Limits.{recordLimit}
+use Rattle.laws.specs.Lists.{All}
 use Rattle.laws.specs.Refusals.{refusal, answer, filled, refused, done}
 use Rattle.laws.proofs.Tables.{refusal-first, refusal-second, unfilled}
 use Rattle.model_file.proofs.Judgement.{records-numbered}
+use Rattle.model_file.proofs.Counts.{ends-as-cells}
 use Rattle.laws.proofs.Tests.{or-none}
 use Rattle.model_file.specs.Records.{floatAt, byte1, capIn}
 use Rattle.model_file.specs.File.{chop, records, lastOf, coordsOf, kindsOf, wordsOf, endsOf, decode, lengthOff, recordsTable}
+use Rattle.model_file.specs.Held.{Byte}
 use Rattle.model_file.specs.Reading.{roomOff, readRefusal, foundIn, Reading}
 use Rattle.model_file.specs.Steps.{judge}
 use Rattle.model_file.specs.declared.Found.{Found}
@@ -25,7 +28,6 @@ use Rattle.model_file.specs.declared.ReadAnswer.the-variants.{Refused, Read}
 use Rattle.model_read.specs.Steps.{short, Judged, Fitting, Filled, foundAt}
 use Rattle.model_read.specs.declared.Place.{Place}
 use Rattle.model_read.specs.declared.Tally.{Tally}
-use Rattle.model_read.proofs.FillPass.{ends-as-cells}
 
 -- ---- the last record stands at the end
 
@@ -48,6 +50,12 @@ pub last-lent : (s : List ℕ) → length s ≢ 0 → length s % 32 ≡ 0 → ta
 last-lent s h k =
     let d = length-drop (length s - 32) s in
     take-all (length s - (length s - 32)) (drop (length s - 32) s) (omega arith) ∙ sym (last-stands s k (omega arith))
+
+-- it has 32 bytes
+pub last-long : (s : List ℕ) → length s ≢ 0 → length s % 32 ≡ 0 → length (take (length s - (length s - 32)) (drop (length s - 32) s)) ≡ 32
+last-long s h k =
+    let d = length-drop (length s - 32) s in
+    length-take-le (length s - (length s - 32)) (drop (length s - 32) s) (omega arith) ∙ omega arith
 
 -- what is found besides the lists
 pub found-is : (s r : List ℕ) (p : Place) → r ≡ lastOf (records s) → p .coords ≡ length (coordsOf (records s)) → p .cells ≡ length (kindsOf (records s)) → p .words ≡ length (wordsOf (records s)) → foundAt r p ≡ foundIn (decode s)
@@ -132,17 +140,21 @@ front-filled : {A : Type 0} (n : ℕ) (xs l l' : List A) → n ≡ 0 → length 
 front-filled n xs l l' h fit w =
     w ∙ sets-eq xs l 0 (omega arith) ∙ ap (λ (k : ℕ). xs ++ drop k l) (zero-add (length xs)) ∙ sym (ap (λ (k : ℕ). filled k xs l) h)
 
-module _ (s : List ℕ) (coords : List Float) (kinds ends words : List ℕ) where
+module _ (s : List ℕ) (coords : List Float) (kinds ends words : List ℕ) (b : All Byte s) where
   -- a refusal's number, and every list as it was
   pub reading-refused : (n : ℕ) → readRefusal s coords kinds ends words ≡ n → n ≢ 0 → Reading s coords coords kinds kinds ends ends words words (Refused n)
   reading-refused n h p =
       let m = readRefusal s coords kinds ends words in
       record {
         answered = sym (ap (λ (k : ℕ). answer k (foundIn (decode s))) h ∙ ap (λ (b : Bool). cond b (done (foundIn (decode s))) (refused n)) (ne-eqb n 0 p));
-        coordsAre = unfilled m n (decode s .coords) coords h p;
-        kindsAre = unfilled m n (decode s .kinds) kinds h p;
-        endsAre = unfilled m n (decode s .ends) ends h p;
-        wordsAre = unfilled m n (decode s .words) words h p;
+        memory =
+            record {
+              coordsAre = unfilled m n (decode s .coords) coords h p;
+              kindsAre = unfilled m n (decode s .kinds) kinds h p;
+              endsAre = unfilled m n (decode s .ends) ends h p;
+              wordsAre = unfilled m n (decode s .words) words h p;
+            };
+        bytes = b;
       }
 
   -- what is found, and every list filled
@@ -154,8 +166,12 @@ module _ (s : List ℕ) (coords : List Float) (kinds ends words : List ℕ) wher
       let n = ends-as-cells (records s) (ok .judgedWell) in
       record {
         answered = ap done q ∙ sym (ap (λ (k : ℕ). answer k (foundIn (decode s))) h);
-        coordsAre = front-filled m (coordsOf (records s)) coords coords' h (ok .coordsFit) (g .coordsAre);
-        kindsAre = front-filled m (kindsOf (records s)) kinds kinds' h (ok .kindsFit) (g .kindsAre);
-        endsAre = front-filled m (endsOf false 0 (records s)) ends ends' h (omega (arith, n, ok .endsFit)) (g .endsAre);
-        wordsAre = front-filled m (wordsOf (records s)) words words' h (ok .wordsFit) (g .wordsAre);
+        memory =
+            record {
+              coordsAre = front-filled m (coordsOf (records s)) coords coords' h (ok .coordsFit) (g .coordsAre);
+              kindsAre = front-filled m (kindsOf (records s)) kinds kinds' h (ok .kindsFit) (g .kindsAre);
+              endsAre = front-filled m (endsOf false 0 (records s)) ends ends' h (omega (arith, n, ok .endsFit)) (g .endsAre);
+              wordsAre = front-filled m (wordsOf (records s)) words words' h (ok .wordsFit) (g .wordsAre);
+            };
+        bytes = b;
       }

@@ -2,7 +2,7 @@
 use Prim.Native.Nat.{ℕ, _+_, _*_, _-_, _≤_, _<_}
 use mathlib.Core.Path.{_≡_, refl, sym, ap, _∙_, subst}
 use mathlib.Core.List.{List, [], _∷_, _++_}
-use mathlib.Core.Bool.{Bool, true, false, cond}
+use mathlib.Core.Bool.{Bool, true, false}
 use native.Mathlib.Nat.{add-zero}
 use native.Mathlib.Omega.{arith}
 use lib.ListN.{length, take, drop, length-append}
@@ -12,14 +12,13 @@ use lib.Ieee.{Float}
 use borrow.Author.Tests.{ltb-true, ltb-false, lt-ltb}
 use Rattle.laws.specs.Lists.{onlyIf}
 use Rattle.laws.proofs.Stores.{sets-append}
-use Rattle.laws.proofs.Tests.{clash}
-use Rattle.model_file.specs.Records.{letter, count, kindsIn, wordsIn, endsIn, stage, misplaced, recordOff}
+use Rattle.model_file.specs.Records.{letter, kindsIn, wordsIn, endsIn, stage, misplaced, recordOff}
 use Rattle.model_file.specs.File.{chop, records, kindsOf, wordsOf, endsOf, opens}
 use Rattle.model_file.specs.Steps.{judge, recordRefusal}
 use Rattle.model_file.specs.declared.Letter.{Letter}
 use Rattle.model_file.specs.declared.Letter.the-variants.{Node, Cell, More, Last, Other}
-use Rattle.model_file.proofs.Judgement.{two-rows, passed, after-last, none-left, stage-lt}
-use Rattle.model_file.proofs.Decoded.{kinds-step, ends-step}
+use Rattle.model_file.proofs.Judgement.{two-rows, after-last}
+pub use Rattle.model_file.proofs.Counts.{ends-as-cells}
 use Rattle.model_read.specs.Steps.{Nodes, nodeCoords, Room, Put, Fitting, Filled}
 use Rattle.model_read.specs.declared.Place.{Place}
 use Rattle.model_read.proofs.JudgePass.{Judging, judging-step, records-step, records-end, fits, part-length, part32, little}
@@ -43,39 +42,6 @@ next-end cells w ends Cell r rs h =
     go true e = let q = ltb-true 0 cells e in omega arith
     go false e = let q = ltb-false 0 cells e in omega arith
 next-end cells w ends Last r rs h = rw (h refl) (sym (sets-append ends (cells - 1) (onlyIf (ltb 0 cells) (w ∷ [])) []))
-
--- as many ends as cells
-ends-count : (rs : List (List ℕ)) (s : ℕ) (b : Bool) (at : ℕ) → s < 3 → judge s rs ≡ 0 → length (endsOf b at rs) ≡ cond b 1 0 + length (kindsOf rs)
-ends-count [] s b at lt j = absurd (none-left s lt j)
-ends-count (r ∷ rs) s b at lt j = go (letter r) refl (λ t c n u k. ends-count rs t c n u k)
-  where
-    go : (l : Letter) → letter r ≡ l → ((t : ℕ) (c : Bool) (n : ℕ) → t < 3 → judge t rs ≡ 0 → length (endsOf c n rs) ≡ cond c 1 0 + length (kindsOf rs)) → length (endsOf b at (r ∷ rs)) ≡ cond b 1 0 + length (kindsOf (r ∷ rs))
-    go Node e ih = ap length (ends-step r rs Node e b at) ∙ ih 0 b (at + 0) (omega arith) (passed s r rs Node e j .rest) ∙ ap (λ (x : List ℕ). cond b 1 0 + length x) (sym (kinds-step r rs Node e))
-    go More e ih = ap length (ends-step r rs More e b at) ∙ ih (stage More r) b (at + length (wordsIn More r)) (stage-lt (count r)) (passed s r rs More e j .rest) ∙ ap (λ (x : List ℕ). cond b 1 0 + length x) (sym (kinds-step r rs More e))
-    go Other e ih = clash refl (passed s r rs Other e j .place)
-    go Cell e ih =
-        let i = ih (stage Cell r) true (at + length (wordsIn Cell r)) (stage-lt (count r)) (passed s r rs Cell e j .rest) in
-        let k = ap length (kinds-step r rs Cell e) in
-        let n = ap length (ends-step r rs Cell e b at) ∙ length-append (onlyIf b (at ∷ [])) (endsOf true (at + length (wordsIn Cell r)) rs) in
-        let m = ended b in
-        omega arith
-      where
-        ended : (b : Bool) → length (onlyIf b (at ∷ [])) ≡ cond b 1 0
-        ended true = refl
-        ended false = refl
-    go Last e ih =
-        let n = after-last rs (passed s r rs Last e j .rest) in
-        ap length (ends-step r rs Last e b at ∙ ap (λ (x : List (List ℕ)). onlyIf b (at ∷ []) ++ endsOf b (at + 0) x) n)
-        ∙ ended b
-        ∙ ap (λ (x : List ℕ). cond b 1 0 + length x) (sym (kinds-step r rs Last e ∙ ap kindsOf n))
-      where
-        ended : (b : Bool) → length (onlyIf b (at ∷ []) ++ []) ≡ cond b 1 0 + 0
-        ended true = refl
-        ended false = refl
-
--- of a whole file
-pub ends-as-cells : (rs : List (List ℕ)) → judge 0 rs ≡ 0 → length (endsOf false 0 rs) ≡ length (kindsOf rs)
-ends-as-cells rs j = let e = ends-count rs 0 false 0 (omega arith) j in omega arith
 
 -- ---- the pass
 

@@ -9,8 +9,8 @@ use lib.Ieee.{Float}
 use lib.ListN.{length, getD, take, replicate, length-map, List·getD-map}
 use lib.Seq.{take-length}
 use Rattle.laws.specs.Lists.{each, sort}
-use Rattle.laws.specs.Merging.{region, AllBelow, startsOf}
-use Rattle.laws.proofs.Ascending.{Asc, asc-distinct}
+use Rattle.laws.specs.Merging.{region, AllBelow, startsOf, Asc}
+use Rattle.laws.proofs.Ascending.{asc-distinct}
 use Rattle.laws.proofs.Bounds.{below-at, below-append, below-sort}
 use Rattle.laws.proofs.ListLaws.{each-map, getD-any}
 use Rattle.laws.proofs.Sorting.{length-sort}

@@ -1,31 +1,30 @@
 -- What writing answers, from what its passes leave.
 use Prim.Native.Nat.{ℕ, _+_, _*_, _/_, _≤_, _<_}
-use mathlib.Core.Path.{_≡_, refl, sym, ap, _∙_}
+use mathlib.Core.Path.{_≡_, refl, sym, ap, _∙_, subst}
 use mathlib.Core.Logic.{_≢_}
-use mathlib.Core.Bool.{Bool, cond}
+use mathlib.Core.Bool.{Bool, true, cond}
 use mathlib.Core.List.{List, [], _∷_, _++_, append-nil}
 use native.Mathlib.Nat.{zero-add}
 use native.Mathlib.Omega.{arith}
-use lib.Dec.{ltb}
-use lib.ListN.{length, drop, length-append}
+use lib.Dec.{T, ltb}
+use lib.ListN.{length, getD, drop, length-append}
 use lib.Seq.{sets, sets-eq}
-use lib.Ieee.{Float}
+use lib.Ieee.{Float, nan, binary64, fits}
 use borrow.Author.Tests.{lt-ltb, le-ltb, ne-eqb}
 use Rattle.laws.specs.Refusals.{refused, done, answer, filled}
-use Rattle.laws.specs.Limits.{flagLimit}
 use Rattle.laws.proofs.ListLaws.{each-append}
 use Rattle.laws.proofs.Stores.{sets-append}
 use Rattle.mesh.proofs.Accepts.{numbers-model}
 use Rattle.laws.proofs.Tables.{refusal-first, refusal-second}
-use Rattle.geometry.specs.Coordinates.{nodeCount}
 use Rattle.mesh.specs.Model.{Model, cellsOf}
-use Rattle.mesh.specs.Acceptance.{cellsTable, modelTable, modelRefusal}
-use Rattle.mesh.proofs.Accepted.{nines}
+use Rattle.mesh.specs.Acceptance.{modelTable, modelRefusal}
 use Rattle.model_file.specs.Records.{lastRecord}
 use Rattle.model_file.specs.File.{nodeRecords, recordsOf, encode}
 use Rattle.model_file.specs.Steps.{join, cells}
+use Rattle.model_file.specs.Held.{Fits, Held}
 use Rattle.model_file.specs.Writing.{Writing, writeRefusal}
 use Rattle.model_file.specs.declared.WriteAnswer.the-variants.{Refused, Written}
+use Rattle.model_file.proofs.Numbers.{all-known}
 use Rattle.model_file.proofs.Accepting.{Accepted}
 use Rattle.model_file.proofs.Chop.{length-join, nodes-whole, cells-whole, cells-few}
 use Rattle.model_write.specs.Steps.{Cells}
@@ -90,6 +89,10 @@ module _ (m : Model) where
 
 -- ---- the answer
 
+-- a model's values fit, from what the types of its lists and numbers say
+pub held-by : (m : Model) → ((i : ℕ) → Fits (getD (m .coords) i nan)) → fits binary64 (m .tolerance) ≡ true → m .cap < 65536 → Held m
+held-by m c t k = record { coords = all-known Fits nan (m .coords) c; tolerance = subst T (sym t) tt; cap = k }
+
 module _ (m : Model) (out : List ℕ) where
   -- 5 to 10 come first
   pub refused-model : modelRefusal m ≢ 0 → writeRefusal m out ≡ modelRefusal m
@@ -105,18 +108,20 @@ module _ (m : Model) (out : List ℕ) where
   refused-room z h = then-four z ∙ ap (λ (b : Bool). cond b 4 0) (lt-ltb (length out) (length (encode m)) h)
 
   -- a refusal's number, and nothing written
-  pub writing-refused : (n : ℕ) → n ≢ 0 → writeRefusal m out ≡ n → Writing m out out (Refused n)
-  writing-refused n z e =
+  pub writing-refused : Held m → (n : ℕ) → n ≢ 0 → writeRefusal m out ≡ n → Writing m out out (Refused n)
+  writing-refused held n z e =
       record {
         answered = sym (ap (λ (k : ℕ). answer k (length (encode m))) e ∙ ap (λ (b : Bool). cond b (done (length (encode m))) (refused n)) (ne-eqb n 0 z));
         outIs = sym (ap (λ (k : ℕ). filled k (encode m) out) e ∙ ap (λ (b : Bool). cond b (encode m ++ drop (length (encode m)) out) out) (ne-eqb n 0 z));
+        held = held;
       }
 
   -- the bytes in front, the rest as it was
-  pub writing-done : (out' : List ℕ) (n : ℕ) → modelRefusal m ≡ 0 → n ≡ length (encode m) → length (encode m) ≤ length out → out' ≡ sets out 0 (encode m) → Writing m out out' (Written n)
-  writing-done out' n z q h w =
+  pub writing-done : Held m → (out' : List ℕ) (n : ℕ) → modelRefusal m ≡ 0 → n ≡ length (encode m) → length (encode m) ≤ length out → out' ≡ sets out 0 (encode m) → Writing m out out' (Written n)
+  writing-done held out' n z q h w =
       let e : writeRefusal m out ≡ 0 = then-four z ∙ ap (λ (b : Bool). cond b 4 0) (le-ltb (length out) (length (encode m)) h) in
       record {
         answered = ap done q ∙ sym (ap (λ (k : ℕ). answer k (length (encode m))) e);
         outIs = w ∙ sets-eq (encode m) out 0 (omega arith) ∙ ap (λ (k : ℕ). encode m ++ drop k out) (zero-add (length (encode m))) ∙ sym (ap (λ (k : ℕ). filled k (encode m) out) e);
+        held = held;
       }

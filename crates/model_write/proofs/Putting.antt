@@ -1,12 +1,12 @@
 -- Runs of stores that write zeros, words and whole records.
 use Prim.Native.Nat.{ℕ, zero, suc, _+_, _*_, _-_, _≤_, _<_}
-use mathlib.Core.Path.{_≡_, sym, ap, ap₂, _∙_}
+use mathlib.Core.Path.{_≡_, refl, sym, ap, ap₂, _∙_}
 use mathlib.Core.List.{List, [], _∷_, _++_, append-assoc}
 use native.Mathlib.Nat.{add-zero, sub-zero}
 use native.Mathlib.Numerals.{add-one}
 use native.Mathlib.Omega.{arith}
 use lib.ListN.{length, getD, take, drop, set, replicate, length-append, length-drop, length-replicate}
-use lib.Seq.{sets, sets-eq, drop-cons, drop-drop, take-add, length-take-le, take-append-seam, drop-append-add}
+use lib.Seq.{sets, sets-eq, length-sets, drop-cons, drop-drop, take-add, length-take-le, take-append-seam, drop-append-add}
 use lib.Ieee.{Float}
 use Rattle.laws.specs.Bytes.{bytes}
 use Rattle.laws.proofs.ListLaws.{each-append}
@@ -28,12 +28,12 @@ module _ (l : List ℕ) (i e : ℕ) where
 -- ---- words, as bytes from a place on
 
 -- before the first
-pub words-none : (l ws : List ℕ) (at from n : ℕ) → sets l (at + 2 * 0) (wordBytes (take (n - 0) (drop (from + 0) ws))) ≡ sets l at (wordBytes (take n (drop from ws)))
+words-none : (l ws : List ℕ) (at from n : ℕ) → sets l (at + 2 * 0) (wordBytes (take (n - 0) (drop (from + 0) ws))) ≡ sets l at (wordBytes (take n (drop from ws)))
 words-none l ws at from n = rw (add-zero at, sub-zero, add-zero from)
 
 module _ (l ws : List ℕ) (at from n j : ℕ) where
   -- k more behind j, then the rest
-  pub words-more : (k : ℕ) → j + k ≤ n → from + n ≤ length ws
+  words-more : (k : ℕ) → j + k ≤ n → from + n ≤ length ws
       → sets (sets l (at + 2 * j) (wordBytes (take k (drop (from + j) ws)))) (at + 2 * (j + k)) (wordBytes (take (n - (j + k)) (drop (from + (j + k)) ws))) ≡ sets l (at + 2 * j) (wordBytes (take (n - j) (drop (from + j) ws)))
   words-more k h b =
       let rest = drop (from + j) ws in
@@ -51,6 +51,24 @@ module _ (l ws : List ℕ) (at from n j : ℕ) where
   -- after the last
   pub words-done : n ≤ j → sets l (at + 2 * j) (wordBytes (take (n - j) (drop (from + j) ws))) ≡ l
   words-done h = let a : n - j ≡ 0 = omega arith in rw a
+
+-- what is left, put where the loop stands, is all words put
+pub record Wording (r₀ ws : List ℕ) (at from n : ℕ) (r : List ℕ) (j : ℕ) : Type 0 where
+  pub inside : j ≤ n
+  pub rest : sets r (at + 2 * j) (wordBytes (take (n - j) (drop (from + j) ws))) ≡ sets r₀ at (wordBytes (take n (drop from ws)))
+  pub long : length r ≡ length r₀
+
+pub wording-start : (r₀ ws : List ℕ) (at from n : ℕ) → Wording r₀ ws at from n r₀ 0
+wording-start r₀ ws at from n = record { inside = omega arith; rest = words-none r₀ ws at from n; long = refl }
+
+pub wording-step : (r₀ ws : List ℕ) (at from n : ℕ) (r r' : List ℕ) (j k : ℕ) → Wording r₀ ws at from n r j → j + k ≤ n → from + n ≤ length ws → r' ≡ sets r (at + 2 * j) (wordBytes (take k (drop (from + j) ws)))
+    → Wording r₀ ws at from n r' (j + k)
+wording-step r₀ ws at from n r r' j k v h b e =
+    record {
+      inside = h;
+      rest = ap (λ (l : List ℕ). sets l (at + 2 * (j + k)) (wordBytes (take (n - (j + k)) (drop (from + (j + k)) ws)))) e ∙ words-more r ws at from n j k h b ∙ v .rest;
+      long = ap length e ∙ length-sets r (at + 2 * j) (wordBytes (take k (drop (from + j) ws))) ∙ v .long;
+    }
 
 -- the bytes of one
 pub one-word : (ws : List ℕ) (i w : ℕ) → i < length ws → w ≡ narrow (getD ws i 0) → bytes 2 w ≡ wordBytes (take 1 (drop i ws))

@@ -14,9 +14,8 @@ use Rattle.geometry.specs.Points.{pointsOf, centreOf}
 use Rattle.findings.specs.Findings.{Finding, overfull}
 use Rattle.findings.specs.Records.{fieldsOf, centreIn}
 use Rattle.findings.specs.Rules.{rulesWith}
-use Rattle.records.specs.Read.{told}
 use Rattle.records.specs.declared.Record.{Record}
-use Rattle.records.specs.Keeping.{Kept, KeptOne}
+use Rattle.records.specs.Keeping.{Kept, KeptOne, told}
 use Rattle.records.proofs.Keeping.{kept-none, kept-then}
 use Rattle.index.specs.Faces.{cellOf}
 use Rattle.layout.specs.declared.Layout.{Layout}

@@ -4,7 +4,7 @@ ghost use Prim.Native.Nat.{_*_, _≤_, _^_};
 ghost use lib.ListN.{length};
 ghost use Rattle.laws.specs.Lists.{pairsOf, triplesOf};
 ghost use Rattle.index.specs.Faces.{input, base, Laid, Room, Indexed};
-ghost use Rattle.seek.specs.Candidates.{Ready, Sought};
+ghost use Rattle.seek.specs.Candidates.{Ready, SoughtBy};
 ghost use Rattle.seek.specs.Steps.{Hidden};
 ghost use Rattle.triple_keys.specs.Keys.{Keyed};
 ghost use Rattle.pairs.specs.Tables.{withIndex, ReadyAll};
@@ -89,7 +89,8 @@ pub fn prepare(work: &mut [u32], at: index::Places) -> bool
     by_nodes(&work[..found], at)
 }
 
-// The candidates of face lo, of which none is before `end`; `by` is the second index, and the slice is ready for the next face.
+// The candidates of face lo, of which none is before `end`, sought the way that is asked for, as the answer tells; `by` is the second
+// index, and the slice is ready for the next face.
 pub fn candidates_of(
     work: &mut [u32],
     at: index::Places,
@@ -97,10 +98,10 @@ pub fn candidates_of(
     lo: usize,
     end: usize,
     by_nodes: bool,
-) -> usize
+) -> seek::Searched
     requires { ⌜ Ready at lo (now work) × Keyed at by (base at (now work)) ⌝ }
     requires { ⌜ (end ≤ at .faces) × Hidden at (input at (now work)) lo end ⌝ }
-    ensures { λ r. ⌜ Sought at lo (now (work .entry)) (now (work .exit)) r ⌝ }
+    ensures { λ r. ⌜ SoughtBy «by_nodes» at lo (now (work .entry)) (now (work .exit)) r ⌝ }
     ensures { λ r. ⌜ ReadyAll at (now (work .exit)) ⌝ }
 {
     if by_nodes {

@@ -6,19 +6,20 @@ ghost use mathlib.Core.List.{[], _∷_};
 ghost use Prim.Native.Nat.{_+_, _-_, _*_, _^_, _≤_, _<_};
 ghost use lib.ListN.{length, getD, set};
 ghost use Rattle.laws.specs.Lists.{each, upFrom};
-ghost use Rattle.laws.specs.Merging.{region};
 ghost use Rattle.geometry.specs.Coordinates.{nodeCount};
 ghost use Rattle.index.specs.Faces.{input, base};
-ghost use Rattle.seek.specs.Candidates.{candidates};
-ghost use Rattle.seek.specs.Steps.{Hidden};
+ghost use Rattle.seek.specs.Candidates.{TalliedMore};
 ghost use Rattle.triple_keys.specs.Keys.{Keyed};
 ghost use Rattle.records.specs.Keeping.{Kept};
-ghost use Rattle.layout.specs.Tables.{Spaced, Standing, Still};
+ghost use Rattle.layout.specs.Tables.{faceCount, Standing, Still};
 ghost use Rattle.layout.specs.Kept.{KeptAny};
 ghost use Rattle.layout.specs.ByCell.{plainRules, partlyCell};
-ghost use Rattle.partially_shared.specs.Listing.{Listed, Rising, listCount, listWith, ListFits};
-ghost use Rattle.partially_shared.specs.Hits.{passing, faceHits, cellHits, Marked, MarkedMore, Higher, Searching, Beside, toldBy, markTells, MarkFits, MarksFit, Cleared};
+ghost use Rattle.partially_shared.specs.Listing.{Listed, Rising, ListFits};
+ghost use Rattle.partially_shared.specs.Hits.{Searching, toldBy, markTells, MarkFits, MarksFit, Cleared};
 ghost use Rattle.pair_sort.specs.Pairs.{pairsAt};
+use noting::note_cell;
+
+mod noting; // the faces of a cell: candidates sought, later cells marked
 
 // The cells from lo on, before hi, and how many are listed: one more than the layout's `words` where the list is too short for all.
 pub struct Range {
@@ -27,173 +28,16 @@ pub struct Range {
     pub count: usize,
 }
 
-// The lower of two.
-fn lower(a: usize, b: usize) -> usize
-    ensures { λ r. ⌜ (r ≤ a) × (r ≤ b) ⌝ }
-{
-    if b < a {
-        return b;
-    }
-    a
+// What the faces of a cell noted so far: the range of marked cells, and how many faces were sought each way.
+pub struct Noted {
+    pub range: Range,
+    pub tally: seek::Tally,
 }
 
-// The higher of two.
-fn higher(a: usize, b: usize) -> usize
-    ensures { λ r. ⌜ Higher a b r ⌝ }
-{
-    if a < b {
-        return b;
-    }
-    a
-}
-
-// The range with cell b, and `count` listed.
-fn widen(r: Range, b: usize, count: usize) -> Range
-    requires { ⌜ b < 2 ^ 32 ⌝ }
-    ensures { λ s. ⌜ (s .lo ≤ r .lo) × (s .lo ≤ b) × Higher (r .hi) (b + 1) (s .hi) × (s .count ≡ count) ⌝ }
-{
-    Range {
-        lo: lower(r.lo, b),
-        hi: higher(r.hi, b + 1),
-        count: count,
-    }
-}
-
-// Cell b is listed behind n others, where there is room: as the first word of a pair, whose second word may be any.
-fn list_cell(work: &mut [u32], l: layout::Layout, b: usize, n: usize) -> usize
-    requires { ⌜ Spaced l (length (now work)) ⌝ }
-    requires { ⌜ b < l .at .«cell_count» ⌝ }
-    ensures { λ k. ⌜ (k ≡ listCount l n) × (now (work .exit) ≡ listWith l b n (now (work .entry))) ⌝ }
-{
-    let words = l.words;
-    if n < words {
-        let at = l.pairs + 2 * n;
-        work[at] = counting::narrow(b);
-        return n + 1;
-    }
-    words + 1
-}
-
-// Cell b gets the mark of faces f and g.
-fn mark(work: &mut [u32], l: layout::Layout, b: usize, f: usize, g: usize)
-    requires { ⌜ Spaced l (length (now work)) ⌝ }
-    requires { ⌜ (b < l .at .«cell_count») × (f < l .at .faces) × (g < l .at .faces) ⌝ }
-    ensures { λ _. ⌜ now (work .exit) ≡ set (set (now (work .entry)) (l .marks + b) (f + 1)) (l .others + b) g ⌝ }
-{
-    let m = l.marks + b;
-    let o = l.others + b;
-    work[m] = counting::narrow(f + 1);
-    work[o] = counting::narrow(g);
-}
-
-// Faces f and g of different cells: the cell of g is marked with them, unless it is marked or their common nodes span no area.
-fn note(
-    coords: &[f64],
-    tol: f64,
-    work: &mut [u32],
-    l: layout::Layout,
-    f: usize,
-    g: usize,
-    r: Range,
-) -> Range
-    requires { ⌜ Searching l (now work) ⌝ }
-    requires { ⌜ (f < l .at .faces) × (g < l .at .faces) × (l .at .nodes ≡ nodeCount (now coords)) × (r .hi ≤ l .at .«cell_count») ⌝ }
-    ensures { λ s. ⌜ MarkedMore l (input (l .at) (now (work .entry))) (passing (plainRules (now (coords .entry)) tol) l (input (l .at) (now (work .entry))) f (g ∷ [])) (now (work .entry)) (now (work .exit)) r s ⌝ }
-    ensures { λ s. ⌜ Beside (l .marks) l (now (work .entry)) (now (work .exit)) × (s .hi ≤ l .at .«cell_count») ⌝ }
-{
-    let at = l.at;
-    let found = at.found;
-    let b = layout::cell_of(work, l, g);
-    let m = l.marks + b;
-    if work[m] != 0 {
-        return r;
-    }
-    if !common_nodes::spans(coords, tol, &work[..found], at, f, g) {
-        return r;
-    }
-    mark(work, l, b, f, g);
-    let count = list_cell(work, l, b, r.count);
-    widen(r, b, count)
-}
-
-// The n candidates of face f, which stand at `found`, in order.
-fn note_found(
-    coords: &[f64],
-    tol: f64,
-    work: &mut [u32],
-    l: layout::Layout,
-    f: usize,
-    n: usize,
-    r: Range,
-) -> Range
-    requires { ⌜ Searching l (now work) ⌝ }
-    requires { ⌜ (f < l .at .faces) × (l .at .nodes ≡ nodeCount (now coords)) × (r .hi ≤ l .at .«cell_count») × (n ≡ length (candidates (l .at) (input (l .at) (now work)) f)) × (region (l .at .found) n (now work) ≡ candidates (l .at) (input (l .at) (now work)) f) ⌝ }
-    ensures { λ s. ⌜ MarkedMore l (input (l .at) (now (work .entry))) (faceHits (plainRules (now (coords .entry)) tol) l (input (l .at) (now (work .entry))) f) (now (work .entry)) (now (work .exit)) r s ⌝ }
-    ensures { λ s. ⌜ Beside (l .marks) l (now (work .entry)) (now (work .exit)) × (s .hi ≤ l .at .«cell_count») ⌝ }
-{
-    let at = l.at;
-    let found = at.found;
-    let mut s = r;
-    let mut i = 0;
-    while i < n {
-        let g = counting::wide(work[found + i]);
-        s = note(coords, tol, work, l, f, g, s);
-        i += 1;
-    }
-    s
-}
-
-// Face f: its candidates, of which none is before `end`, are sought, one of the two ways, and noted.
-fn note_face(
-    coords: &[f64],
-    tol: f64,
-    work: &mut [u32],
-    l: layout::Layout,
-    by: index::Places,
-    f: usize,
-    end: usize,
-    by_nodes: bool,
-    r: Range,
-) -> Range
-    requires { ⌜ Searching l (now work) ⌝ }
-    requires { ⌜ (f < l .at .faces) × (l .at .nodes ≡ nodeCount (now coords)) × (r .hi ≤ l .at .«cell_count») × Keyed (l .at) by (base (l .at) (now work)) ⌝ }
-    requires { ⌜ (end ≤ l .at .faces) × Hidden (l .at) (input (l .at) (now work)) f end ⌝ }
-    ensures { λ s. ⌜ MarkedMore l (input (l .at) (now (work .entry))) (faceHits (plainRules (now (coords .entry)) tol) l (input (l .at) (now (work .entry))) f) (now (work .entry)) (now (work .exit)) r s ⌝ }
-    ensures { λ s. ⌜ Beside (l .at .found) l (now (work .entry)) (now (work .exit)) × (s .hi ≤ l .at .«cell_count») ⌝ }
-{
-    let at = l.at;
-    let n = pairs::candidates_of(work, at, by, f, end, by_nodes);
-    note_found(coords, tol, work, l, f, n, r)
-}
-
-// The faces of cell c, in order, where no cell is marked.
-fn note_cell(
-    coords: &[f64],
-    tol: f64,
-    work: &mut [u32],
-    l: layout::Layout,
-    by: index::Places,
-    c: usize,
-    by_nodes: bool,
-) -> Range
-    requires { ⌜ Standing l (now work) ⌝ }
-    requires { ⌜ (c < l .at .«cell_count») × (l .at .nodes ≡ nodeCount (now coords)) × Keyed (l .at) by (base (l .at) (now work)) ⌝ }
-    ensures { λ s. ⌜ Marked l (input (l .at) (now (work .entry))) (cellHits (plainRules (now (coords .entry)) tol) l (input (l .at) (now (work .entry))) c) (now (work .exit)) s ⌝ }
-    ensures { λ s. ⌜ Beside (l .at .found) l (now (work .entry)) (now (work .exit)) × (s .hi ≤ l .at .«cell_count») ⌝ }
-{
-    let at = l.at;
-    let end = layout::first_face(work, l, c + 1);
-    let mut s = Range {
-        lo: at.cell_count,
-        hi: 0,
-        count: 0,
-    };
-    let mut f = layout::first_face(work, l, c);
-    while f < end {
-        s = note_face(coords, tol, work, l, by, f, end, by_nodes, s);
-        f += 1;
-    }
-    s
+// How many findings there are, and how many faces were sought each way.
+pub struct Counts {
+    pub findings: usize,
+    pub tally: seek::Tally,
 }
 
 // The finding that the mark of cell b tells.
@@ -353,7 +197,7 @@ fn by_list(r: Range, l: layout::Layout) -> bool
     r.count < (r.hi - r.lo) / 16
 }
 
-// The partly shared pairs whose first cell is c.
+// The partly shared pairs whose first cell is c, its faces sought the way that is asked for and counted. The pairs do not depend on the way.
 pub fn keep_partly(
     coords: &[f64],
     tol: f64,
@@ -364,17 +208,29 @@ pub fn keep_partly(
     by_nodes: bool,
     findings: &mut [u8],
     room: usize,
-    n: usize,
-) -> usize
+    n: Counts,
+) -> Counts
     requires { ⌜ Standing l (now work) ⌝ }
     requires { ⌜ (c < l .at .«cell_count») × (l .at .nodes ≡ nodeCount (now coords)) × Keyed (l .at) by (base (l .at) (now work)) ⌝ }
-    requires { ⌜ (64 * room ≤ length (now findings)) × (n ≤ 2 ^ 56) ⌝ }
-    ensures { λ k. ⌜ Kept (plainRules (now (coords .entry)) tol) room n (partlyCell (plainRules (now (coords .entry)) tol) l (input (l .at) (now (work .entry))) c) (now (findings .entry)) (now (findings .exit)) k ⌝ }
-    ensures { λ k. ⌜ (k ≤ n + 2 ^ 18) × Still l (now (work .entry)) (now (work .exit)) ⌝ }
+    requires { ⌜ (64 * room ≤ length (now findings)) × (n .findings ≤ 2 ^ 56) × (n .tally .nodes ≤ 2 ^ 20) × (n .tally .triples ≤ 2 ^ 20) ⌝ }
+    ensures { λ k. ⌜ Kept (plainRules (now (coords .entry)) tol) room (n .findings) (partlyCell (plainRules (now (coords .entry)) tol) l (input (l .at) (now (work .entry))) c) (now (findings .entry)) (now (findings .exit)) (k .findings) ⌝ }
+    ensures { λ k. ⌜ (k .findings ≤ n .findings + 2 ^ 18) × Still l (now (work .entry)) (now (work .exit)) ⌝ }
+    ensures { λ k. ⌜ TalliedMore «by_nodes» (faceCount l (input (l .at) (now (work .entry))) c) (n .tally) (k .tally) ⌝ }
 {
-    let r = note_cell(coords, tol, work, l, by, c, by_nodes);
+    let before = n.tally;
+    let s = note_cell(coords, tol, work, l, by, c, by_nodes, before);
+    let r = s.range;
+    let tally = s.tally;
     if by_list(r, l) {
-        return keep_listed(coords, work, l, c, r.count, findings, room, n);
+        let k = keep_listed(coords, work, l, c, r.count, findings, room, n.findings);
+        return Counts {
+            findings: k,
+            tally: tally,
+        };
     }
-    keep_range(coords, work, l, c, r, findings, room, n)
+    let k = keep_range(coords, work, l, c, r, findings, room, n.findings);
+    Counts {
+        findings: k,
+        tally: tally,
+    }
 }

@@ -14,7 +14,7 @@ use lib.Seq.{take-at}
 use Rattle.laws.specs.Limits.{programRecords, programWork}
 use Rattle.laws.specs.Lists.{each}
 use Rattle.laws.specs.Refusals.{refused, done, refusal, answer, filled}
-use Rattle.laws.proofs.Tables.{refusal-first}
+use Rattle.laws.proofs.Tables.{refusal-first, answered-done, answered-refused}
 use Rattle.laws.proofs.Tests.{tested}
 use Rattle.mesh.specs.Model.{Model, modelOf}
 use Rattle.mesh.specs.Acceptance.{modelTable, modelRefusal, checkTable, workNeeded}
@@ -34,22 +34,6 @@ use Rattle.program.specs.Running.{keptIn}
 use Rattle.program.specs.Steps.{textOf, Keeps, checkedRefusal, modelText, Reporting}
 
 -- ---- answers
-
--- an answer that is no refusal: nothing was refused, and it is that answer
-pub answered-done : {A : Type 0} (n : ℕ) (a b : A) → done a ≡ answer n b → (n ≡ 0) × (a ≡ b)
-answered-done n a b e = go (tested (eqb n 0))
-  where
-    go : (eqb n 0 ≡ true) ⊎ (eqb n 0 ≡ false) → (n ≡ 0) × (a ≡ b)
-    go (inl t) = let q : done a ≡ done b = e ∙ rw t in (eqb-true n 0 t, cc)
-    go (inr t) = let q : done a ≡ refused n = e ∙ rw t in let z : _≡_ {A = ℕ} 0 1 = cc in absurd (omega arith)
-
--- an answer that is a refusal: it has the refusal's number, which is not 0
-pub answered-refused : {A : Type 0} (n k : ℕ) (b : A) → refused k ≡ answer n b → (n ≢ 0) × (k ≡ n)
-answered-refused n k b e = go (tested (eqb n 0))
-  where
-    go : (eqb n 0 ≡ true) ⊎ (eqb n 0 ≡ false) → (n ≢ 0) × (k ≡ n)
-    go (inl t) = let q : refused k ≡ done b = e ∙ rw t in let z : _≡_ {A = ℕ} 0 1 = cc in absurd (omega arith)
-    go (inr t) = let q : refused k ≡ refused n = e ∙ rw t in (eqb-false n 0 t, cc)
 
 -- of an answer that is a report: what was kept fits
 pub keeps-report : (a : CheckAnswer) (f : List ℕ) (t k : ℕ) → a ≡ Report t k → Keeps a f → (64 * k ≤ length f) × (k ≤ programRecords)
@@ -112,9 +96,9 @@ module _ (m : Model) (f f' w w' : List ℕ) where
     text-is : (r : CheckAnswer) → Checking m f f' w w' r → textOf r f' ≡ modelText m
     unfolding modelText reportOf
     text-is (Refused n) c =
-        let p = answered-refused (checkRefusal m w) n (totalsOf m (length f)) (c .answered) in
-        let z : checkedRefusal m ≢ 0 = λ e. p .0 (same-no ∙ e) in
-        ap refusedLine (p .1 ∙ same-no) ∙ sym (ap (λ (b : Bool). cond b (reportOf m) (refusedLine (checkedRefusal m))) (ne-eqb (checkedRefusal m) 0 z))
+        let p = answered-refused n (checkRefusal m w) (totalsOf m (length f)) (c .answered) in
+        let z : checkedRefusal m ≢ 0 = λ e. eqb-false (checkRefusal m w) 0 (p .1) (same-no ∙ e) in
+        ap refusedLine (p .0 ∙ same-no) ∙ sym (ap (λ (b : Bool). cond b (reportOf m) (refusedLine (checkedRefusal m))) (ne-eqb (checkedRefusal m) 0 z))
     text-is (Report t k) c =
         let p = answered-done (checkRefusal m w) (record { total = t; kept = k }) (totalsOf m (length f)) (c .answered) in
         let z : checkedRefusal m ≡ 0 = sym same-no ∙ p .0 in
@@ -129,6 +113,6 @@ module _ (m : Model) (f f' w w' : List ℕ) where
         record {
           stored = subst (λ (x : List ℕ). Stored out 0 x out' q) (text-is r c) s;
           within = h;
-          findingsAre = c .findingsAre ∙ ap₂ (λ (n l : ℕ). filled n (keptBytes (rulesOf m) (totalsOf m l .kept) (fullOf m)) f) same-no lf;
-          workIs = c .workIs ∙ ap (λ (n : ℕ). filled n (replicate (workNeeded m) 0) w) same-no;
+          findingsAre = c .memory .findingsAre ∙ ap₂ (λ (n l : ℕ). filled n (keptBytes (rulesOf m) (totalsOf m l .kept) (fullOf m)) f) same-no lf;
+          workIs = c .memory .workIs ∙ ap (λ (n : ℕ). filled n (replicate (workNeeded m) 0) w) same-no;
         }

@@ -12,7 +12,7 @@ use lib.ListN.{length, take, drop, replicate, length-append}
 use lib.Seq.{take-at}
 use Rattle.laws.specs.Limits.{inputLimit, programWork}
 use Rattle.laws.specs.Refusals.{refusal, filled}
-use Rattle.laws.proofs.Tables.{Numbered, refusal-first, refusal-second, unfilled}
+use Rattle.laws.proofs.Tables.{Numbered, refusal-first, refusal-second, unfilled, answered-done, answered-refused}
 use Rattle.model_file.proofs.Judgement.{records-numbered}
 use Rattle.laws.proofs.Tests.{tested}
 use Rattle.mesh.specs.Model.{Model, modelOf}
@@ -29,7 +29,6 @@ use Rattle.report.specs.Program.{reportOf, output}
 use Rattle.report_text.specs.Stored.{Stored}
 use Rattle.program.specs.Running.{keptIn, Lists, inputRefusal, programRefusal, Running}
 use Rattle.program.specs.Steps.{checkedRefusal, modelText, Parts, Reporting}
-use Rattle.program.proofs.Answers.{answered-done, answered-refused}
 use Rattle.program.proofs.Sizes.{threes, room}
 
 -- ---- the tables
@@ -105,19 +104,20 @@ module _ (s : List ℕ) (coords coords' : List Float) (kinds kinds' ends ends' w
   pub not-read : (a : ReadAnswer) (n : ℕ) (findings work out out' : List ℕ) (r : ℕ) → a ≡ Refused n → Reading s coords coords' kinds kinds' ends ends' words words' a → Stored out 0 (refusedLine n) out' r → r ≤ length out
       → Running s coords coords' kinds kinds' ends ends' words words' findings findings work work out out' r
   not-read a n findings work out out' r e c t w =
-      let q = answered-refused (readRefusal s coords kinds ends words) n (foundIn (decode s)) (sym (ap readTold e) ∙ c .answered) in
-      let z : refusal (fileTable s) ≢ 0 = λ y. q .0 (reads-as s coords kinds ends words l h ∙ y) in
-      let p : programRefusal s ≡ n = program-short s h ∙ refusal-first (fileTable s) (checkTable (decode s) programWork) z ∙ sym (q .1 ∙ reads-as s coords kinds ends words l h) in
-      let d : n ≢ 0 = λ y. q .0 (sym (q .1) ∙ y) in
+      let q = answered-refused n (readRefusal s coords kinds ends words) (foundIn (decode s)) (sym (ap readTold e) ∙ c .answered) in
+      let some : readRefusal s coords kinds ends words ≢ 0 = eqb-false (readRefusal s coords kinds ends words) 0 (q .1) in
+      let z : refusal (fileTable s) ≢ 0 = λ y. some (reads-as s coords kinds ends words l h ∙ y) in
+      let p : programRefusal s ≡ n = program-short s h ∙ refusal-first (fileTable s) (checkTable (decode s) programWork) z ∙ sym (q .0 ∙ reads-as s coords kinds ends words l h) in
+      let d : n ≢ 0 = λ y. some (sym (q .0) ∙ y) in
       record {
         stored = subst (λ (x : List ℕ). Stored out 0 x out' r) (output-refused s n p d) t;
         within = w;
         findingsAre = unfilled (programRefusal s) n (keptIn (decode s)) findings p d;
         workIs = unfilled (programRefusal s) n (replicate (workNeeded (decode s)) 0) work p d;
-        coordsAre = c .coordsAre ∙ ap (λ (k : ℕ). filled k (decode s .coords) coords) (sym same-no);
-        kindsAre = c .kindsAre ∙ ap (λ (k : ℕ). filled k (decode s .kinds) kinds) (sym same-no);
-        endsAre = c .endsAre ∙ ap (λ (k : ℕ). filled k (decode s .ends) ends) (sym same-no);
-        wordsAre = c .wordsAre ∙ ap (λ (k : ℕ). filled k (decode s .words) words) (sym same-no);
+        coordsAre = c .memory .coordsAre ∙ ap (λ (k : ℕ). filled k (decode s .coords) coords) (sym same-no);
+        kindsAre = c .memory .kindsAre ∙ ap (λ (k : ℕ). filled k (decode s .kinds) kinds) (sym same-no);
+        endsAre = c .memory .endsAre ∙ ap (λ (k : ℕ). filled k (decode s .ends) ends) (sym same-no);
+        wordsAre = c .memory .wordsAre ∙ ap (λ (k : ℕ). filled k (decode s .words) words) (sym same-no);
       }
 
 -- ---- a model that was read
@@ -146,19 +146,19 @@ module _ (s : List ℕ) (coords coords' : List Float) (kinds kinds' ends ends' w
 
   -- the coordinates stand in front of their list
   coords-front : coords' ≡ decode s .coords ++ drop (length (decode s .coords)) coords
-  coords-front = in-front (readRefusal s coords kinds ends words) (decode s .coords) coords coords' (found .0) (c .coordsAre)
+  coords-front = in-front (readRefusal s coords kinds ends words) (decode s .coords) coords coords' (found .0) (c .memory .coordsAre)
 
   -- the kinds of theirs
   kinds-front : kinds' ≡ decode s .kinds ++ drop (length (decode s .kinds)) kinds
-  kinds-front = in-front (readRefusal s coords kinds ends words) (decode s .kinds) kinds kinds' (found .0) (c .kindsAre)
+  kinds-front = in-front (readRefusal s coords kinds ends words) (decode s .kinds) kinds kinds' (found .0) (c .memory .kindsAre)
 
   -- the ends of theirs
   ends-front : ends' ≡ decode s .ends ++ drop (length (decode s .ends)) ends
-  ends-front = in-front (readRefusal s coords kinds ends words) (decode s .ends) ends ends' (found .0) (c .endsAre)
+  ends-front = in-front (readRefusal s coords kinds ends words) (decode s .ends) ends ends' (found .0) (c .memory .endsAre)
 
   -- the words of theirs
   words-front : words' ≡ decode s .words ++ drop (length (decode s .words)) words
-  words-front = in-front (readRefusal s coords kinds ends words) (decode s .words) words words' (found .0) (c .wordsAre)
+  words-front = in-front (readRefusal s coords kinds ends words) (decode s .words) words words' (found .0) (c .memory .wordsAre)
 
   -- the nodes found are all coordinates, in threes
   coords-count : 3 * f .nodes ≡ length (decode s .coords)
@@ -219,8 +219,8 @@ module _ (s : List ℕ) (coords coords' : List Float) (kinds kinds' ends ends' w
         within = p .within;
         findingsAre = p .findingsAre ∙ ap (λ (k : ℕ). filled k (keptIn (decode s)) findings) (sym program-no);
         workIs = p .workIs ∙ ap (λ (k : ℕ). filled k (replicate (workNeeded (decode s)) 0) work) (sym program-no);
-        coordsAre = c .coordsAre ∙ ap (λ (k : ℕ). filled k (decode s .coords) coords) (sym i);
-        kindsAre = c .kindsAre ∙ ap (λ (k : ℕ). filled k (decode s .kinds) kinds) (sym i);
-        endsAre = c .endsAre ∙ ap (λ (k : ℕ). filled k (decode s .ends) ends) (sym i);
-        wordsAre = c .wordsAre ∙ ap (λ (k : ℕ). filled k (decode s .words) words) (sym i);
+        coordsAre = c .memory .coordsAre ∙ ap (λ (k : ℕ). filled k (decode s .coords) coords) (sym i);
+        kindsAre = c .memory .kindsAre ∙ ap (λ (k : ℕ). filled k (decode s .kinds) kinds) (sym i);
+        endsAre = c .memory .endsAre ∙ ap (λ (k : ℕ). filled k (decode s .ends) ends) (sym i);
+        wordsAre = c .memory .wordsAre ∙ ap (λ (k : ℕ). filled k (decode s .words) words) (sym i);
       }

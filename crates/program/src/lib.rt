@@ -47,7 +47,7 @@ fn report_on(
         &words[0..w],
         f.tolerance,
         mesh::Checks(f.flags),
-        f.cap as u32,
+        f.cap,
         findings,
         work,
     );

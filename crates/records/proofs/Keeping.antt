@@ -14,9 +14,8 @@ use Rattle.geometry.specs.declared.Point.{Point}
 use Rattle.findings.specs.Findings.{Rules, Finding}
 use Rattle.findings.specs.Records.{fieldsOf, centreIn, recordBytes, recordOf}
 use Rattle.findings.proofs.Kept.{records-64}
-use Rattle.records.specs.Read.{told}
 use Rattle.records.specs.declared.Record.{Record}
-use Rattle.records.specs.Keeping.{Kept}
+use Rattle.records.specs.Keeping.{told, Kept}
 
 -- the records of the first k
 abbrev firstOf : Rules → ℕ → List Finding → List ℕ

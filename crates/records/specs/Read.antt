@@ -1,20 +1,10 @@
--- The fields of a finding: as a value of the program, and read out of bytes.
+-- The fields of a finding, read out of bytes.
 use Prim.Native.Nat.{ℕ, _+_}
-use mathlib.Core.List.{List, _++_}
+use mathlib.Core.List.{List}
 use lib.ListN.{getD}
 use lib.Seq.{slice}
-use Rattle.laws.specs.Bytes.{number, bytes}
+use Rattle.laws.specs.Bytes.{number}
 use Rattle.findings.specs.Records.{Fields}
-use Rattle.records.specs.declared.Record.{Record}
-
--- the fields that a value has
-abbrev pub told : Record → Fields
-told r =
-    record { kind = r .kind; first = r .first; second = r .second; a = r .a; b = r .b; count = r .count }
-
--- the words of a record: all its fields but the kind
-abbrev pub wordBytes : Fields → List ℕ
-wordBytes f = bytes 4 (f .first) ++ (bytes 4 (f .second) ++ (bytes 4 (f .a) ++ (bytes 4 (f .b) ++ bytes 4 (f .count))))
 
 -- the number that the four bytes from a place on stand for, the lowest first
 abbrev pub word : List ℕ → ℕ → ℕ

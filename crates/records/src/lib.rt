@@ -5,8 +5,8 @@ ghost use lib.ListN.{length};
 ghost use lib.Seq.{slice, sets};
 ghost use Rattle.laws.specs.Bytes.{number};
 ghost use Rattle.findings.specs.Records.{pointBytes, recordBytes};
-ghost use Rattle.records.specs.Read.{fieldsIn, told, wordBytes};
-ghost use Rattle.records.specs.Keeping.{KeptOne};
+ghost use Rattle.records.specs.Read.{fieldsIn};
+ghost use Rattle.records.specs.Keeping.{told, fieldBytes, KeptOne};
 
 // A finding's fields: kind, first cell, second cell, item a, item b, count.
 pub struct Record {
@@ -21,7 +21,7 @@ pub struct Record {
 // The five words of a record, in a slice of 64 bytes.
 fn put_words(s: &mut [u8], r: Record)
     requires { ⌜ length (now s) ≡ 64 ⌝ }
-    ensures { λ _. ⌜ now (s .exit) ≡ sets (now (s .entry)) 4 (wordBytes (told r)) ⌝ }
+    ensures { λ _. ⌜ now (s .exit) ≡ sets (now (s .entry)) 4 (fieldBytes (told r)) ⌝ }
 {
     floats::put_bytes(s, 4, 4, r.first as u64);
     floats::put_bytes(s, 8, 4, r.second as u64);

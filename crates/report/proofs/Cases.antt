@@ -1,4 +1,4 @@
--- A published case, and what it is for the definitions to agree with it. The tables Cases1 and on are written by tools/cases.py.
+-- A published case, and what it is for the definitions to agree with it. The table, Published, is written by tools/cases.py.
 use Prim.Native.Nat.{ℕ, _*_}
 use mathlib.Core.Bool.{Bool, true, _&&_}
 use mathlib.Core.List.{List, [], _∷_}

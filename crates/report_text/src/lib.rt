@@ -4,7 +4,7 @@ ghost use mathlib.Core.List.{[], _∷_, _++_};
 ghost use Prim.Native.Nat.{_+_, _*_, _≤_, _<_};
 ghost use lib.ListN.{length};
 ghost use Rattle.laws.specs.Lists.{each};
-ghost use Rattle.records.specs.Read.{told};
+ghost use Rattle.records.specs.Keeping.{told};
 ghost use Rattle.report.specs.Text.{digitsTo, decimal, spaced, lineOf, totalLine, refusedLine, conform, reportText};
 ghost use Rattle.report_text.specs.Stored.{Stored, fieldsKept};
 

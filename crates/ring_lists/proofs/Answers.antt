@@ -62,7 +62,7 @@ module _ (m : Model) (raw welded work : List ℕ) where
   pub refused-so : (n : ℕ) → fillRefusal m raw welded work ≡ n → n ≢ 0 → Filling m raw raw welded welded work work (Refused n)
   refused-so n e z =
       let q = ne-eqb n 0 z in
-      record { answered = rw (e, q); rawIs = rw (e, q); weldedIs = rw (e, q); workIs = rw (e, q) }
+      record { answered = rw (e, q); memory = record { rawIs = rw (e, q); weldedIs = rw (e, q); workIs = rw (e, q) } }
 
   pub filled-so : (raw' welded' work' : List ℕ) (r : ℕ) → fillRefusal m raw welded work ≡ 0 → workNeeded m ≤ length work → length (rawRings m) ≤ length raw → length (rawRings m) ≤ length welded
       → r ≡ length (rawRings m) → Stored m raw raw' welded welded' work work' → Filling m raw raw' welded welded' work work' (Words r)
@@ -70,9 +70,11 @@ module _ (m : Model) (raw welded work : List ℕ) where
   filled-so raw' welded' work' r e a b c k s =
       record {
         answered = rw (e, k);
-        rawIs = s .rawIs ∙ sets-front raw (rawRings m) b ∙ rw e;
-        weldedIs = s .weldedIs ∙ sets-front welded (weldedRings m) (omega (arith, length-map (rawRings m) (weldedBy (weldedAll (m .coords) (m .tolerance))))) ∙ rw e;
-        workIs = s .workIs ∙ sets-front work (replicate (workNeeded m) 0) (omega (arith, length-replicate {A = ℕ} (workNeeded m) 0)) ∙ rw e;
+        memory = record {
+          rawIs = s .rawIs ∙ sets-front raw (rawRings m) b ∙ rw e;
+          weldedIs = s .weldedIs ∙ sets-front welded (weldedRings m) (omega (arith, length-map (rawRings m) (weldedBy (weldedAll (m .coords) (m .tolerance))))) ∙ rw e;
+          workIs = s .workIs ∙ sets-front work (replicate (workNeeded m) 0) (omega (arith, length-replicate {A = ℕ} (workNeeded m) 0)) ∙ rw e;
+        };
       }
 
 -- ---- the work needed, from the counts

@@ -34,9 +34,13 @@ abbrev pub fillTold : RingsAnswer → Answer ℕ
 fillTold (Refused n) = refused n
 fillTold (Words n) = done n
 
--- Filling's promise: the answer; the first R words of each list, and the needed words of work, which end zero.
-pub record Filling (m : Model) (raw raw' welded welded' work work' : List ℕ) (r : RingsAnswer) : Type 0 where
-  pub answered : fillTold r ≡ answer (fillRefusal m raw welded work) (length (rawRings m))
+-- What filling leaves in lent memory: the first R words of each list, and the needed words of work, which end zero.
+pub record FillMemory (m : Model) (raw raw' welded welded' work work' : List ℕ) : Type 0 where
   pub rawIs : raw' ≡ filled (fillRefusal m raw welded work) (rawRings m) raw
   pub weldedIs : welded' ≡ filled (fillRefusal m raw welded work) (weldedRings m) welded
   pub workIs : work' ≡ filled (fillRefusal m raw welded work) (replicate (workNeeded m) 0) work
+
+-- Filling's promise: the answer, and lent memory.
+pub record Filling (m : Model) (raw raw' welded welded' work work' : List ℕ) (r : RingsAnswer) : Type 0 where
+  pub answered : fillTold r ≡ answer (fillRefusal m raw welded work) (length (rawRings m))
+  pub memory : FillMemory m raw raw' welded welded' work work'

@@ -5,3 +5,4 @@ pub mod Read
 pub mod Searching
 pub mod Merging
 pub mod Skipping
+pub mod Tallies

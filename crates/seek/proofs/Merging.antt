@@ -11,9 +11,9 @@ use borrow.Author.Tests.{leb-true, le-leb, lt-ltb, eqb-true, ne-eqb}
 use lib.Dec.{leb, eqb, leb·zero}
 use lib.ListN.{length, getD, take, drop, length-map, List·getD-map}
 use lib.Seq.{sets, length-sets, drop-drop}
-use Rattle.laws.specs.Merging.{region}
+use Rattle.laws.specs.Merging.{region, Asc}
 use Rattle.laws.specs.Lists.{keep, upFrom, elem}
-use Rattle.laws.proofs.Ascending.{Asc, elem-keep, asc-keep, asc-upFrom, elem-upFrom, keep-cong, keep-none, head-in, first-in, first-low, from-next}
+use Rattle.laws.proofs.Ascending.{elem-keep, asc-keep, asc-upFrom, elem-upFrom, keep-cong, keep-none, head-in, first-in, first-low, from-next}
 use Rattle.laws.proofs.Tests.{tested, split, eqb-self, and-parts, both-ways}
 use Rattle.laws.proofs.ListLaws.{getD-any}
 use Rattle.laws.proofs.Stores.{getD-within}

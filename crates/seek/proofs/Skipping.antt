@@ -11,7 +11,8 @@ use lib.Dec.{leb, leb·zero}
 use lib.ListN.{length, getD, set, length-set}
 use lib.Seq.{getD-set-same, getD-set-other}
 use Rattle.laws.specs.Lists.{keep, elem}
-use Rattle.laws.proofs.Ascending.{Asc, asc-keep, keep-cong, keep-skip, first-low}
+use Rattle.laws.specs.Merging.{Asc}
+use Rattle.laws.proofs.Ascending.{asc-keep, keep-cong, keep-skip, first-low}
 use Rattle.index.specs.declared.Places.{Places}
 use Rattle.index.specs.Faces.{input, nodesOf, facesWith}
 use Rattle.merge.specs.Runs.{rest}

@@ -6,7 +6,7 @@ use mathlib.Core.Path.{_≡_}
 use lib.Dec.{leb, ltb, eqb}
 use lib.ListN.{length, getD}
 use Rattle.laws.specs.Lists.{onlyIf, keep, upFrom, eql}
-use Rattle.laws.proofs.Ascending.{Asc}
+use Rattle.laws.specs.Merging.{Asc}
 use Rattle.index.specs.declared.Places.{Places}
 use Rattle.index.specs.Faces.{input, base, cellOf, bowOf, nodesOf, facesWith}
 use Rattle.merge.specs.Runs.{rest, Ends}

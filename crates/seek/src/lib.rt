@@ -9,8 +9,50 @@ ghost use Rattle.laws.specs.Lists.{onlyIf, keep, eql};
 ghost use Rattle.counting.specs.Counts.{below};
 ghost use Rattle.index.specs.Faces.{input, base, cellOf, bowOf, startOf, nodesOf, wordsOf, Indexed};
 ghost use Rattle.merge.specs.Runs.{rest, Ends};
-ghost use Rattle.seek.specs.Candidates.{common, shares, Ready, Sought};
+ghost use mathlib.Core.Bool.{true};
+ghost use Rattle.seek.specs.Candidates.{common, shares, Ready, Sought, foundIn, wentByNodes, SoughtBy, TalliedMore};
 ghost use Rattle.seek.specs.Steps.{Runs, Hidden, Rising, AllRising, Passed, Begun, one, apart};
+
+// What a search answers: how many candidates it found, under the name of its own way.
+pub enum Searched {
+    ByNodes(usize),
+    ByTriples(usize),
+}
+
+// How many faces were sought by each way.
+pub struct Tally {
+    pub nodes: usize,
+    pub triples: usize,
+}
+
+impl Searched {
+    // How many candidates were found.
+    pub fn count(self) -> usize
+        ensures { λ r. ⌜ r ≡ foundIn self ⌝ }
+    {
+        match self {
+            Searched::ByNodes(n) => n,
+            Searched::ByTriples(n) => n,
+        }
+    }
+
+    // One face more, sought this way.
+    pub fn tallied(self, t: Tally) -> Tally
+        requires { ⌜ (t .nodes < 2 ^ 40) × (t .triples < 2 ^ 40) ⌝ }
+        ensures { λ r. ⌜ TalliedMore (wentByNodes self) 1 t r ⌝ }
+    {
+        match self {
+            Searched::ByNodes(_) => Tally {
+                nodes: t.nodes + 1,
+                triples: t.triples,
+            },
+            Searched::ByTriples(_) => Tally {
+                nodes: t.nodes,
+                triples: t.triples + 1,
+            },
+        }
+    }
+}
 
 // Where the node set of face g starts, and how many nodes it has.
 pub fn set_start(base: &[u32], at: index::Places, g: usize) -> usize
@@ -204,18 +246,19 @@ fn skip_runs(base: &[u32], k: usize, from: &mut [usize; 64], to: &[usize; 64], e
 
 // By common nodes: a merge of the lists of lo's nodes, in which a face comes as often as it has one of them.
 // It begins at face `end`, before which none is a candidate. None where lo's cell is a bow-tie.
-pub fn seek_by_nodes(work: &mut [u32], at: index::Places, lo: usize, end: usize) -> usize
+pub fn seek_by_nodes(work: &mut [u32], at: index::Places, lo: usize, end: usize) -> Searched
     requires { ⌜ Ready at lo (now work) ⌝ }
     requires { ⌜ (end ≤ at .faces) × Hidden at (input at (now work)) lo end ⌝ }
-    ensures { λ r. ⌜ Sought at lo (now (work .entry)) (now (work .exit)) r ⌝ }
+    ensures { λ r. ⌜ SoughtBy true at lo (now (work .entry)) (now (work .exit)) r ⌝ }
 {
     let found = at.found;
     if bow_at(&work[..found], at, lo) {
-        return 0;
+        return Searched::ByNodes(0);
     }
     let mut from = [0usize; 64];
     let mut to = [0usize; 64];
     let k = open_runs(&work[..found], at, lo, &mut from, &mut to);
     skip_runs(&work[..found], k, &mut from, &to, end);
-    merge_runs(work, at, lo, k, &mut from, &to)
+    let n = merge_runs(work, at, lo, k, &mut from, &to);
+    Searched::ByNodes(n)
 }

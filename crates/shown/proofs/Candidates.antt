@@ -9,7 +9,7 @@ use lib.Dec.{leb, ltb, eqb}
 use lib.ListN.{length, getD, length-map}
 use Rattle.laws.specs.Lists.{any, keep, elem, upFrom, sum, pairsOf, triplesOf}
 use Rattle.laws.proofs.Tests.{and-parts}
-use Rattle.laws.proofs.ListLaws.{keep-map}
+use Rattle.laws.proofs.ListLaws.{keep-map, length-upFrom}
 use Rattle.laws.proofs.Ascending.{keep-cong, elem-upFrom}
 use Rattle.mesh.specs.Model.{Model, Raw, cellsOf}
 use Rattle.mesh.specs.Rings.{Cell, Face, ringsOf, nodeSet, numberFrom, numbered, faces}
@@ -56,6 +56,12 @@ module _ (b : Raw → Bool) where
       ∙ at-place (suc i) (n + length (ringsOf x)) cs k c (omega arith) (omega arith)
 
 -- ---- a model's
+
+-- the tables have as many faces as the model
+pub faces-shown : (m : Model) (l : Layout) (t : List ℕ) → Shows m l t → l .at .faces ≡ length (facesIn m)
+unfolding facesAt
+faces-shown m l t S =
+    sym (length-map (upFrom 0 (l .at .faces)) (faceRow l t) ∙ length-upFrom 0 (l .at .faces)) ∙ ap (λ (fs : List Face). length fs) (S .faces)
 
 module _ (m : Model) (l : Layout) (t : List ℕ) (F : Faced l t) (S : Shows m l t) where
   -- the definition's bow-ties are those of the tables

@@ -86,7 +86,7 @@ module _ (c : List Float) (t : Float) (m w : List ℕ) (ok : Accepted c (length 
 pub refusing : (c : List Float) (t : Float) (m w : List ℕ) (r : ℕ) → r ≡ weldRefusal c t m w → (r ≡ 0 → ⊥) → Welding c t m m w w (Refused r)
 refusing c t m w r e z =
     let q : eqb (weldRefusal c t m w) 0 ≡ false = ap (λ (x : ℕ). eqb x 0) (sym e) ∙ ne-eqb r 0 z in
-    record { answered = rw q (ap refused e); mapIs = rw q; scratchIs = rw q }
+    record { answered = rw q (ap refused e); memory = record { mapIs = rw q; scratchIs = rw q } }
 
 -- filled
 pub filling : (c : List Float) (t : Float) (m m' w w' : List ℕ) → weldRefusal c t m w ≡ 0
@@ -95,4 +95,4 @@ pub filling : (c : List Float) (t : Float) (m m' w w' : List ℕ) → weldRefusa
     → Welding c t m m' w w' Filled
 filling c t m m' w w' e p q =
     let z : eqb (weldRefusal c t m w) 0 ≡ true = ap (λ (x : ℕ). eqb x 0) e in
-    record { answered = rw z; mapIs = rw z p; scratchIs = rw z q }
+    record { answered = rw z; memory = record { mapIs = rw z p; scratchIs = rw z q } }

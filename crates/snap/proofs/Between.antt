@@ -102,12 +102,18 @@ module _ (c : List Float) (ok : coordinatesOff c ≡ false) (t : Float) (leader 
       points-between t (pointAt c leader) (pointAt c b) (pointAt c k) (pointAt c m) _ _ (finite leader) (finite b) (finite k) (finite m) h i f p
 
   -- from j to a place that was reached all are passed over
-  pub all-passed : (j r e : ℕ) (w : List ℕ) → InOrder c j e w → j ≤ r → r < e → farOf c t leader (getD w j 0) ≡ false → nearOf c t leader (getD w j 0) ≡ false → Reached c (mul binary64 t t) (pointAt c leader) (pointAt c (getD w j 0)) j r w → PassedOver c t leader j (r + 1) w
+  all-passed : (j r e : ℕ) (w : List ℕ) → InOrder c j e w → j ≤ r → r < e → farOf c t leader (getD w j 0) ≡ false → nearOf c t leader (getD w j 0) ≡ false → Reached c (mul binary64 t t) (pointAt c leader) (pointAt c (getD w j 0)) j r w → PassedOver c t leader j (r + 1) w
   all-passed j r e w o a b f n (inl q) k d g =
       let s : j ≡ k = omega arith in
       subst (λ (i : ℕ). (farOf c t leader (getD w i 0) ≡ false) × (nearOf c t leader (getD w i 0) ≡ false)) s (f, n)
   all-passed j r e w o a b f n (inr p) k d g =
       nodes-between (getD w j 0) (getD w k 0) (getD w r 0) (o j k (omega arith) d (omega arith)) (o k r d (omega arith) b) f p
+
+  -- the place behind it, for the points a and b of the leader and the node at j
+  pub past-all : (j r e : ℕ) (w : List ℕ) {a b : Point} → a ≡ pointAt c leader → b ≡ pointAt c (getD w j 0) → (j ≤ r) × (r < e) × Reached c (mul binary64 t t) a b j r w
+      → InOrder c j e w → farOf c t leader (getD w j 0) ≡ false → nearOf c t leader (getD w j 0) ≡ false → (j < r + 1) × (r + 1 ≤ e) × PassedOver c t leader j (r + 1) w
+  past-all j r e w p q h o f n =
+      (omega (arith, h .0), omega (arith, h .1), all-passed j r e w o (h .0) (h .1) f n (rw (p, q) at (h .2)))
 
 -- of those that are passed over the leader takes none
 takes-past : (c : List Float) (t : Float) (p : ℕ) (taken : ℕ → Bool) (l : List ℕ) (n j e : ℕ) → j + n ≤ e → e ≤ length l → PassedOver c t p j (j + n) l → takes c t p taken (slice j e l) ≡ takes c t p taken (slice (j + n) e l)

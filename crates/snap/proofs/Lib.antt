@@ -2,10 +2,12 @@
 pub mod Order
 pub mod Squares
 pub mod Parts
+pub mod Merging
 pub mod Halves
 pub mod Groups
 pub mod Between
 pub mod Marks
+pub mod Taking
 pub mod Turn
 pub mod Whole
 pub mod Answers

@@ -1,5 +1,5 @@
 -- From the sort, the cleared marks, the sweep and the settling to the welded numbers.
-use Prim.Native.Nat.{ℕ, _+_, _-_, _≤_, _<_}
+use Prim.Native.Nat.{ℕ, _+_, _-_, _^_, _≤_, _<_}
 use mathlib.Core.Path.{_≡_, sym, ap, ap₂, _∙_, subst}
 use mathlib.Core.Bool.{Bool, true, false, not, cond}
 use mathlib.Core.List.{List}
@@ -15,7 +15,7 @@ use Rattle.laws.proofs.Stores.{take-before, drop-after, region-before, region-s
 use Rattle.laws.proofs.Sorting.{length-sort, sort-rises}
 use Rattle.floats.specs.Floats.{zero64}
 use Rattle.snap.specs.Weld.{beforeOf, groups, spread, welded}
-use Rattle.geometry.specs.Coordinates.{coordinatesOff}
+use Rattle.geometry.specs.Coordinates.{nodeCount, coordinatesOff}
 use Rattle.snap.specs.Steps.{But, both, InOrder, marked, numbers, weldFrom}
 use Rattle.snap.proofs.Order.{before-total}
 use Rattle.laws.proofs.Bounds.{below-sort}
@@ -29,14 +29,21 @@ module _ (l xs : List ℕ) (a k size : ℕ) (d : length xs ≡ size) where
   run-there h = subst (λ (m : ℕ). region k m (sets l k xs) ≡ xs) d (region-same l k xs (omega arith))
 
   -- all else stays
-  pub run-but : a ≤ k → But a (k + size) l (sets l k xs)
+  run-but : a ≤ k → But a (k + size) l (sets l k xs)
   run-but h = (take-before a l k xs h, drop-after (k + size) l k xs (omega arith))
 
 -- as before twice
 but-but : (a b t : ℕ) (l v w : List ℕ) → a ≤ b → But a t l v → But b t v w → But a t l w
 but-but a b t l v w h p q = (sym (take-take a b w h) ∙ ap (take a) (q .0) ∙ take-take a b v h ∙ p .0, q .1 ∙ p .1)
 
-module _ (c : List Float) (t : Float) (l : List ℕ) (a s k n size : ℕ) (f : a + n ≤ s) (g : s + n ≤ k) (h : k + size ≤ length l) (ns : AllBelow size (region a n l)) where
+-- n nodes at a, room for them at s, and marks of `size` nodes at k
+pub record Lent (c : List Float) (t : Float) (l : List ℕ) (a s k n size : ℕ) : Type 0 where
+  pub first : a + n ≤ s
+  pub second : s + n ≤ k
+  pub marks : k + size ≤ length l
+  pub nodes : AllBelow size (region a n l)
+
+module _ {c : List Float} {t : Float} {l : List ℕ} {a s k n size : ℕ} (L : Lent c t l a s k n size) where
   abbrev S : List ℕ
   S = sort (beforeOf c) (region a n l)
 
@@ -67,11 +74,11 @@ module _ (c : List Float) (t : Float) (l : List ℕ) (a s k n size : ℕ) (f : a
       ∙ run-there l S 0 a n sorted-length (omega arith)
 
   -- they are nodes
-  pub sorted-nodes : AllBelow size (slice a (a + n) l₂)
-  sorted-nodes = rw sorted-run (below-sort (beforeOf c) size (region a n l) ns)
+  sorted-nodes : AllBelow size (slice a (a + n) l₂)
+  sorted-nodes = rw sorted-run (below-sort (beforeOf c) size (region a n l) (L .nodes))
 
   -- and stand in order
-  pub sorted-order : coordinatesOff c ≡ false → InOrder c a (a + n) l₂
+  sorted-order : coordinatesOff c ≡ false → InOrder c a (a + n) l₂
   sorted-order ok i j p q r =
       rw (at i p (omega arith), at j (omega arith) r)
       (sort-rises (beforeOf c) (before-total c ok) (region a n l) 0 (i - a) (j - a) (omega arith) (omega (arith, sorted-length)))
@@ -94,7 +101,7 @@ module _ (c : List Float) (t : Float) (l : List ℕ) (a s k n size : ℕ) (f : a
       ap₂ (λ (r m : List ℕ). spread (groups c t (marked k l₂) r) m) sorted-run
       (ap (numbers 0) (run-there l₁ (replicate size 0) 0 k size zeros (omega (arith, l₁-length))) ∙ numbers-none 0 size)
       ∙ ap (λ (gs : List (List ℕ)). spread gs (upFrom 0 size))
-      (groups-ext c t size (marked k l₂) (λ x. false) S (below-sort (beforeOf c) size (region a n l) ns) no-marks)
+      (groups-ext c t size (marked k l₂) (λ x. false) S (below-sort (beforeOf c) size (region a n l) (L .nodes)) no-marks)
 
   -- nothing else has changed so far
   ready-but : But a (k + size) l l₂
@@ -112,21 +119,43 @@ module _ (c : List Float) (t : Float) (l : List ℕ) (a s k n size : ℕ) (f : a
     settled-length = length-numbers 0 (region k size w) ∙ length-region k size w (omega arith)
 
     -- the settled marks are the welded numbers
-    pub settled : eq t zero64 ≡ false → region k size (sets w k (numbers 0 (region k size w))) ≡ welded c t size (region a n l)
+    settled : eq t zero64 ≡ false → region k size (sets w k (numbers 0 (region k size w))) ≡ welded c t size (region a n l)
     unfolding welded
     settled z = run-there w (numbers 0 (region k size w)) 0 k size settled-length (omega arith) ∙ e ∙ rw z swept
 
     -- nothing else has changed
-    pub settled-but : But a (k + size) l (sets w k (numbers 0 (region k size w)))
+    settled-but : But a (k + size) l (sets w k (numbers 0 (region k size w)))
     settled-but =
         but-but a a (k + size) l w (sets w k (numbers 0 (region k size w))) (omega arith)
         (but-but a s (k + size) l l₂ w (omega arith) ready-but b)
         (run-but w (numbers 0 (region k size w)) a k size settled-length (omega arith))
 
--- with tolerance 0 each node has its own number
-pub unwelded : (c : List Float) (t : Float) (l : List ℕ) (k size : ℕ) (nodes : List ℕ) → k + size ≤ length l → eq t zero64 ≡ true → region k size (sets l k (upFrom 0 size)) ≡ welded c t size nodes
-unfolding welded
-unwelded c t l k size nodes h z = rw z (run-there l (upFrom 0 size) 0 k size (length-upFrom 0 size) h)
+  -- u is l with the nodes sorted, v is u with the marks cleared
+  module _ {u v : List ℕ} (d : u ≡ l₁) (q : v ≡ sets u k (replicate size 0)) where
+    v-is : v ≡ l₂
+    v-is = q ∙ ap (λ (r : List ℕ). sets r k (replicate size 0)) d
+
+    v-length : length v ≡ length l
+    v-length = ap length v-is ∙ length-sets l₁ k (replicate size 0) ∙ l₁-length
+
+    -- what the sweep asks
+    pub sweep-asks : size ≡ nodeCount c → size < 2 ^ 32 → coordinatesOff c ≡ false
+        → (a ≤ a + n) × (a + n ≤ s) × (s + (a + n - a) ≤ k) × (k + size ≤ length v) × (size ≡ nodeCount c) × (size < 2 ^ 32) × AllBelow size (slice a (a + n) v) × InOrder c a (a + n) v × (coordinatesOff c ≡ false)
+    sweep-asks x y z =
+        (omega arith, L .first, omega (arith, L .second), omega (arith, L .marks, v-length), x, y, rw v-is sorted-nodes, rw v-is (sorted-order z), z)
+
+    -- w is v swept, x is w settled: the marks are the welded numbers
+    pub all-settled : (w : List ℕ) {x : List ℕ} → length w ≡ length v → (numbers 0 (region k size w) ≡ weldFrom c t k size a (a + n) v) × But s (k + size) v w
+        → x ≡ sets w k (numbers 0 (region k size w)) → eq t zero64 ≡ false → (region k size x ≡ welded c t size (region a n l)) × But a (k + size) l x
+    all-settled w m b p z =
+        let e = b .0 ∙ ap (weldFrom c t k size a (a + n)) v-is in
+        let o : But s (k + size) l₂ w = rw (← v-is) (b .1) in
+        rw p (settled w (m ∙ v-length) e o z, settled-but w (m ∙ v-length) e o)
+
+  -- with tolerance 0 each node has its own number
+  pub unwelded : {x : List ℕ} → x ≡ sets l k (upFrom 0 size) → eq t zero64 ≡ true → (region k size x ≡ welded c t size (region a n l)) × But a (k + size) l x
+  unfolding welded
+  unwelded p z = rw (p, z) (run-there l (upFrom 0 size) 0 k size (length-upFrom 0 size) (L .marks), run-but l (upFrom 0 size) a k size (length-upFrom 0 size) (omega arith))
 
 -- a welded number for each node
 pub length-welded : (c : List Float) (t : Float) (n : ℕ) (ns : List ℕ) → length (welded c t n ns) ≡ n

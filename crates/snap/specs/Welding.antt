@@ -33,8 +33,12 @@ abbrev pub weldTold : WeldAnswer → Answer Unit
 weldTold (Refused n) = refused n
 weldTold Filled = done tt
 
--- Welding's promise: the answer; the map's first words are the welded numbers of all nodes, the scratch's first are zero.
-pub record Welding (c : List Float) (t : Float) (map map' scratch scratch' : List ℕ) (r : WeldAnswer) : Type 0 where
-  pub answered : weldTold r ≡ answer (weldRefusal c t map scratch) tt
+-- What welding leaves in lent memory: the map's first words are the welded numbers of all nodes, the scratch's first are zero.
+pub record WeldMemory (c : List Float) (t : Float) (map map' scratch scratch' : List ℕ) : Type 0 where
   pub mapIs : map' ≡ filled (weldRefusal c t map scratch) (weldedAll c t) map
   pub scratchIs : scratch' ≡ filled (weldRefusal c t map scratch) (replicate (scratchNeeded c) 0) scratch
+
+-- Welding's promise: the answer, and lent memory.
+pub record Welding (c : List Float) (t : Float) (map map' scratch scratch' : List ℕ) (r : WeldAnswer) : Type 0 where
+  pub answered : weldTold r ≡ answer (weldRefusal c t map scratch) tt
+  pub memory : WeldMemory c t map map' scratch scratch'

@@ -8,9 +8,9 @@ use native.Mathlib.Omega.{arith}
 use lib.Dec.{leb, eqb}
 use lib.ListN.{length}
 use lib.Seq.{sets, length-sets}
-use Rattle.laws.specs.Merging.{region}
+use Rattle.laws.specs.Merging.{region, Asc}
 use Rattle.laws.specs.Lists.{elem, add}
-use Rattle.laws.proofs.Ascending.{Asc, add-least, elem-add, asc-add, head-in, later-in}
+use Rattle.laws.proofs.Ascending.{add-least, elem-add, asc-add, head-in, later-in}
 use Rattle.laws.proofs.Tests.{tested, or-cases, or-swap}
 use Rattle.laws.proofs.Stores.{region-same, sets-self, sets-over, length-region}
 use Rattle.index.specs.declared.Places.{Places}

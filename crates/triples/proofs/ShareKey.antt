@@ -11,7 +11,8 @@ use lib.ListN.{length, getD}
 use Rattle.laws.specs.Lists.{any, keep, elem, add}
 use Rattle.laws.proofs.Tests.{tested, both-ways, or-cases, and-parts, eqb-self}
 use Rattle.laws.proofs.ListLaws.{keep-length}
-use Rattle.laws.proofs.Ascending.{Asc, elem-add, elem-keep, asc-keep, asc-ext, head-in, later-in}
+use Rattle.laws.specs.Merging.{Asc}
+use Rattle.laws.proofs.Ascending.{elem-add, elem-keep, asc-keep, asc-ext, head-in, later-in}
 use Rattle.seek.specs.Candidates.{common}
 use Rattle.triple_keys.specs.Keys.{tripleKey, keysOf}
 

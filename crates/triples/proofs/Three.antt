@@ -11,7 +11,8 @@ use lib.ListN.{length, getD, drop, drop-of-length-le}
 use lib.Seq.{drop-cons}
 use Rattle.laws.specs.Lists.{keep, elem}
 use Rattle.laws.proofs.Tests.{tested}
-use Rattle.laws.proofs.Ascending.{Asc, keep-cong, keep-none, head-in, above-out}
+use Rattle.laws.specs.Merging.{Asc}
+use Rattle.laws.proofs.Ascending.{keep-cong, keep-none, head-in, above-out}
 use Rattle.seek.specs.Candidates.{common}
 
 -- a number that differs from the first is in a list where it is in the rest

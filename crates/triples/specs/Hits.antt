@@ -7,9 +7,8 @@ use mathlib.Core.Path.{_≡_}
 use lib.Dec.{leb}
 use lib.ListN.{length, getD}
 use lib.Seq.{sets}
-use Rattle.laws.specs.Merging.{region}
+use Rattle.laws.specs.Merging.{region, Asc}
 use Rattle.laws.specs.Lists.{each, keep, elem, add}
-use Rattle.laws.proofs.Ascending.{Asc}
 use Rattle.index.specs.declared.Places.{Places}
 use Rattle.index.specs.Faces.{input, base, startOf, nodesOf, facesWith, Indexed}
 use Rattle.merge.specs.Runs.{rest}

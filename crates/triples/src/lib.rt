@@ -1,16 +1,16 @@
 // Candidates of a face, by node triples.
 ghost use mathlib.Core.Path.{_≡_};
+ghost use mathlib.Core.Bool.{false};
 ghost use mathlib.Core.List.{[], _∷_};
 ghost use Prim.Native.Nat.{ℕ, _+_, _≤_, _<_};
 ghost use lib.Dec.{leb};
 ghost use lib.ListN.{length, getD};
 ghost use Rattle.laws.specs.Lists.{onlyIf, each, keep};
-ghost use Rattle.laws.specs.Merging.{region};
-ghost use Rattle.laws.proofs.Ascending.{Asc};
+ghost use Rattle.laws.specs.Merging.{region, Asc};
 ghost use Rattle.counting.specs.Counts.{times};
 ghost use Rattle.index.specs.Faces.{input, base, nodesOf, wordsOf, Indexed};
 ghost use Rattle.merge.specs.Runs.{rest};
-ghost use Rattle.seek.specs.Candidates.{common, shares, Ready, Sought};
+ghost use Rattle.seek.specs.Candidates.{common, shares, Ready, Sought, SoughtBy};
 ghost use Rattle.triple_keys.specs.Keys.{Keyed};
 ghost use Rattle.triples.specs.Hits.{hitsBy, Open, Added, Beside, Known, NodesAt, AddedRare};
 
@@ -256,21 +256,28 @@ fn seek_short(
 
 // By node triples: every later face that has a triple of lo's nodes is met. Where both are short it stands in the list of the triple's
 // number, else in that of a node of the triple that is not left out. None where lo's cell is a bow-tie.
-pub fn seek_by_triples(work: &mut [u32], at: index::Places, by: index::Places, lo: usize) -> usize
+pub fn seek_by_triples(
+    work: &mut [u32],
+    at: index::Places,
+    by: index::Places,
+    lo: usize,
+) -> seek::Searched
     requires { ⌜ Ready at lo (now work) × Keyed at by (base at (now work)) ⌝ }
-    ensures { λ r. ⌜ Sought at lo (now (work .entry)) (now (work .exit)) r ⌝ }
+    ensures { λ r. ⌜ SoughtBy false at lo (now (work .entry)) (now (work .exit)) r ⌝ }
 {
     let found = at.found;
     if seek::bow_at(&work[..found], at, lo) {
-        return 0;
+        return seek::Searched::ByTriples(0);
     }
     let s = seek::set_start(&work[..found], at, lo);
     let k = seek::set_size(&work[..found], at, lo);
     if k < 3 {
-        return 0;
+        return seek::Searched::ByTriples(0);
     }
     if k <= 4 {
-        return seek_short(work, at, by, lo, s, s + k);
+        let n = seek_short(work, at, by, lo, s, s + k);
+        return seek::Searched::ByTriples(n);
     }
-    walk_rare(work, at, at, lo, 0, s, s + k)
+    let n = walk_rare(work, at, at, lo, 0, s, s + k);
+    seek::Searched::ByTriples(n)
 }

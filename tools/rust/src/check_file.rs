@@ -14,7 +14,7 @@ use std::io::Write;
 fn check_model(m: Lent, cap: u16, records: usize, work: usize) -> Result<Vec<u8>, u32> {
     let mut findings = vec![0; RECORD * records];
     let mut work = vec![0; work];
-    let r = lenoshale::check(m, cap.into(), &mut findings, &mut work)?;
+    let r = lenoshale::check(m, cap, &mut findings, &mut work)?;
     let mut text = vec![0; lenoshale::text_room(r.kept as usize)];
     let size = lenoshale::report(&findings, r, &mut text)?;
     text.truncate(size);

@@ -3,7 +3,7 @@
 use std::time::Instant;
 
 use crate::families::FAMILIES;
-use crate::finding::{Finding, difference, reported};
+use crate::finding::{difference, reported, tied};
 use crate::generate;
 use crate::handed;
 use crate::mesh::UMeshView;
@@ -123,21 +123,21 @@ fn compared(m: &Model, rng: &mut Rng, t: &mut Tally) -> Result<(), String> {
     others::file(m)?;
     t.areas += others::area(m, &mesh, rng)?;
     let ours = ours::findings(m, rng)?;
-    for f in &ours {
-        t.kinds[f.kind as usize - 1] += 1;
-    }
-    let tied = |w: &&[Finding]| w[0].kind == 2 && w[1].kind == 2 && w[0].first == w[1].first;
-    t.ties += ours.windows(2).filter(tied).count();
     let agree = |by: Way| {
         let (report, figures) = reference(&mesh, m, by);
-        match difference(&ours, &reported(&mesh, &report)) {
+        let theirs = reported(&mesh, &report);
+        match difference(&ours, &theirs) {
             Some(text) => Err(format!("{by:?}: {text}")),
-            None => Ok((report, figures)),
+            None => Ok((report, theirs, figures)),
         }
     };
-    let (report, _) = agree(Way::Unhooked)?;
-    t.owners += others::face_owners(m, &ours, &mesh, &report)?;
-    let (_, figures) = agree(Way::Seen)?;
+    let (report, theirs, _) = agree(Way::Unhooked)?;
+    for f in &theirs {
+        t.kinds[f.kind as usize - 1] += 1;
+    }
+    t.ties += theirs.windows(2).filter(|w| tied(&w[0], &w[1])).count();
+    t.owners += others::face_owners(m, &ours.first, &mesh, &report)?;
+    let (_, _, figures) = agree(Way::Seen)?;
     if let Some((other, within)) = figures.map(|f| t.other_way(f))
         && within
     {

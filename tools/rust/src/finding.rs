@@ -2,6 +2,7 @@
 
 use crate::lenoshale::RECORD;
 use crate::mesh::{ElementId, UMeshView};
+use crate::ours::Listed;
 use crate::reference::{ConformanceIssue, ConformanceReport};
 
 /// The fields of a record; the centre as bits. Fields that a kind does not have are zero.
@@ -104,10 +105,15 @@ fn of_issue(mesh: &UMeshView, issue: &ConformanceIssue) -> Finding {
     }
 }
 
+/// Whether two findings are overfull faces tied on their first cell.
+pub fn tied(a: &Finding, b: &Finding) -> bool {
+    a.kind == 2 && b.kind == 2 && a.first == b.first
+}
+
 /// Overfull faces tied on their first cell sorted, everything else left in its place.
 pub fn with_ties_sorted(list: &[Finding]) -> Vec<Finding> {
     let mut sorted: Vec<Finding> = list.to_vec();
-    for tie in sorted.chunk_by_mut(|x, y| x.kind == 2 && y.kind == 2 && x.first == y.first) {
+    for tie in sorted.chunk_by_mut(tied) {
         if tie.len() > 1 {
             tie.sort_unstable();
         }
@@ -115,10 +121,18 @@ pub fn with_ties_sorted(list: &[Finding]) -> Vec<Finding> {
     sorted
 }
 
-/// What first differs between our findings and the reference's, if anything.
-pub fn difference(ours: &[Finding], theirs: &[Finding]) -> Option<String> {
-    let ours: Vec<Finding> = ours.iter().map(|f| f.comparable()).collect();
-    let (ours, theirs) = (with_ties_sorted(&ours), with_ties_sorted(theirs));
+/// What first differs between our findings and the reference's, if anything: in the total or in the first ones, which are compared up to
+/// the last that is not tied with one that the cap left out.
+pub fn difference(ours: &Listed, theirs: &[Finding]) -> Option<String> {
+    if ours.total != theirs.len() {
+        return Some(format!("total: ours {}, the Rust's {}", ours.total, theirs.len()));
+    }
+    let mut most = ours.first.len();
+    while 0 < most && most < theirs.len() && tied(&theirs[most - 1], &theirs[most]) {
+        most -= 1;
+    }
+    let ours: Vec<Finding> = ours.first[..most].iter().map(|f| f.comparable()).collect();
+    let (ours, theirs) = (with_ties_sorted(&ours), with_ties_sorted(&theirs[..most]));
     let at = (0..ours.len().max(theirs.len())).find(|&i| ours.get(i) != theirs.get(i))?;
     Some(format!(
         "finding {at} of {} and {}: ours {:?}, the Rust's {:?}",

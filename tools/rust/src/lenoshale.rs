@@ -5,6 +5,7 @@
 
 #[rustfmt::skip]
 unsafe extern "C" {
+    fn lenoshale_version() -> u32;
     fn lenoshale_read(bytes: *const u8, bytes_len: usize, coords: *mut f64, coords_len: usize, kinds: *mut u8, kinds_len: usize,
         ends: *mut u32, ends_len: usize, words: *mut u32, words_len: usize, node_count: *mut u64, cell_count: *mut u64,
         word_count: *mut u64, tolerance: *mut f64, flags: *mut u8, cap: *mut u16) -> u32;
@@ -14,7 +15,7 @@ unsafe extern "C" {
         ends_len: usize, words: *const u32, words_len: usize, tolerance: f64, flags: u8, need: *mut u64, ring_words: *mut u64,
         faces: *mut u64) -> u32;
     fn lenoshale_check(coords: *const f64, coords_len: usize, kinds: *const u8, kinds_len: usize, ends: *const u32, ends_len: usize,
-        words: *const u32, words_len: usize, tolerance: f64, flags: u8, cap: u32, findings: *mut u8, findings_len: usize,
+        words: *const u32, words_len: usize, tolerance: f64, flags: u8, cap: u16, findings: *mut u8, findings_len: usize,
         work: *mut u32, work_len: usize, total: *mut u64, kept: *mut u64) -> u32;
     fn lenoshale_fill_ring_lists(coords: *const f64, coords_len: usize, kinds: *const u8, kinds_len: usize, ends: *const u32,
         ends_len: usize, words: *const u32, words_len: usize, tolerance: f64, flags: u8, raw: *mut u32, raw_len: usize,
@@ -35,6 +36,8 @@ unsafe extern "C" {
     fn lenoshale_run(input: *const u8, input_len: usize, out: *mut u8, out_len: usize, size: *mut u64) -> u32;
 }
 
+/// The interface that this wrapper declares; version() is the linked library's.
+pub const VERSION: u32 = 1;
 /// Bytes of a file's record, the most words that it holds, and the most records of a file.
 pub const FILE_RECORD: usize = 32;
 pub const FILE_RECORD_WORDS: usize = 14;
@@ -150,8 +153,13 @@ pub fn work_needed(m: Lent) -> Result<Needs, u32> {
     told(answer, Needs { work: work as usize, ring_words: ring_words as usize, faces: faces as usize })
 }
 
+/// The version of the library.
+pub fn version() -> u32 {
+    unsafe { lenoshale_version() }
+}
+
 /// Checks a model: the records kept go to findings.
-pub fn check(m: Lent, cap: u32, findings: &mut [u8], work: &mut [u32]) -> Result<Report, u32> {
+pub fn check(m: Lent, cap: u16, findings: &mut [u8], work: &mut [u32]) -> Result<Report, u32> {
     let (mut total, mut kept) = (0, 0);
     #[rustfmt::skip]
     let answer = unsafe {

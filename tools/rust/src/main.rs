@@ -11,8 +11,12 @@ mod lenoshale;
 mod mesh;
 mod model;
 mod nd;
+mod numbers;
 mod others;
 mod ours;
+/// Laid out by hand: the points of a ring stand in a line.
+#[rustfmt::skip]
+mod pins;
 mod record;
 #[allow(dead_code)]
 mod reference;
@@ -26,7 +30,7 @@ use std::process::exit;
 const USAGE: &str = "\
 compare compare [--seed S] [--count N]   findings of both on N generated models (30,000) and large ones
 compare speed [--runs N] [--only MODEL]  times of both on the same models, best of N runs (9); files alone: --only files
-compare record FOLDER [--seed S]         small models with the reference's answers
+compare record REPLAY NUMBERS [--seed S] small models with the reference's answers, and its answers to recorded sets and tests
 ";
 
 fn fail(message: &str) -> ! {
@@ -59,9 +63,12 @@ fn main() {
             let runs = option(&args, "--runs", 9) as usize;
             speed::run(runs, word(&args, "--only"))
         }
-        Some("record") => match args.get(1) {
-            Some(folder) => record::run(folder, seed),
-            None => fail("a folder is missing"),
+        Some("record") => match args.get(1..3) {
+            Some([replay, lists]) => {
+                record::run(replay, seed);
+                numbers::run(lists)
+            }
+            _ => fail("a folder is missing"),
         },
         _ => fail("what is to be done?"),
     };

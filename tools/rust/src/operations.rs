@@ -46,9 +46,9 @@ fn write(m: Lent, cap: u16, bytes: &[u8]) {
 
 fn check(m: Lent, cap: u16, needs: Needs) {
     let (mut findings, mut work) = (vec![7; 2 * RECORD], vec![7; needs.work + 1]);
-    assert_eq!(lenoshale::check(m, cap.into(), &mut findings, &mut work[1..needs.work]), Err(11));
+    assert_eq!(lenoshale::check(m, cap, &mut findings, &mut work[1..needs.work]), Err(11));
     assert_eq!((findings[0], work[1]), (7, 7));
-    let r = lenoshale::check(m, cap.into(), &mut findings, &mut work).unwrap();
+    let r = lenoshale::check(m, cap, &mut findings, &mut work).unwrap();
     assert_eq!(r, Report { total: 1, kept: 1 });
     assert_eq!((findings[0], findings[20], findings[RECORD]), (3, 3, 7));
     assert_eq!((work[0], work[needs.work - 1], work[needs.work]), (0, 0, 7));
@@ -107,6 +107,7 @@ fn run(bytes: &[u8]) {
 
 fn main() -> std::io::Result<()> {
     let bytes = std::fs::read(std::env::args().nth(1).expect("usage: operations FILE"))?;
+    assert_eq!(lenoshale::version(), lenoshale::VERSION);
     let (lists, found) = read(&bytes);
     let m = model(&lists, found);
     assert_eq!(lenoshale::work_needed(Lent { flags: 4, ..m }), Err(10));
@@ -117,6 +118,6 @@ fn main() -> std::io::Result<()> {
     rings(m, needs);
     nodes();
     run(&bytes);
-    println!("12 operations answer as they must");
+    println!("12 operations and the version answer as they must");
     Ok(())
 }

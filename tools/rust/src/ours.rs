@@ -10,7 +10,7 @@ const MARK: u8 = 170;
 const MARK_WORD: u32 = u32::from_ne_bytes([MARK; 4]);
 
 /// One accepted call, with `room` bytes for findings: its report and the kept records.
-fn call(m: &Model, cap: u32, room: usize) -> Result<(Report, Vec<u8>), String> {
+fn call(m: &Model, cap: u16, room: usize) -> Result<(Report, Vec<u8>), String> {
     let need = m.work_needed();
     let mut findings = vec![MARK; room];
     let mut work = vec![MARK_WORD; need + 5];
@@ -48,24 +48,35 @@ fn refuses_short_work(m: &Model) -> Result<(), String> {
     Ok(())
 }
 
-/// Every finding of a model. A capped call, one without room and a refused one are made too.
-pub fn findings(m: &Model, rng: &mut Rng) -> Result<Vec<Finding>, String> {
+/// The cap that asks for so many, or for as many as a cap can.
+fn capped(most: usize) -> u16 {
+    most.min(u16::MAX.into()) as u16
+}
+
+/// How many findings a model has, and the first of them, as many as a cap can ask for.
+pub struct Listed {
+    pub total: usize,
+    pub first: Vec<Finding>,
+}
+
+/// The findings of a model. A capped call, one without room and a refused one are made too.
+pub fn findings(m: &Model, rng: &mut Rng) -> Result<Listed, String> {
     refuses_short_work(m)?;
     let (none, _) = call(m, 0, 0)?;
     let total = none.total as usize;
-    let (all, records) = call(m, total as u32, total * RECORD)?;
+    let (all, records) = call(m, capped(total), total * RECORD)?;
     if all.total != none.total {
         return Err("another total with a cap".into());
     }
     let cap = rng.below(total + 3);
     let room = rng.below((total + 2) * RECORD);
-    let (capped, first) = call(m, cap as u32, room)?;
-    if capped.total != none.total || records[..first.len()] != first {
+    let (fewer, first) = call(m, capped(cap), room)?;
+    if fewer.total != none.total || records[..first.len()] != first {
         return Err(format!(
             "another list or total with cap {cap} and room {room}"
         ));
     }
-    let mut list = Vec::with_capacity(total);
+    let mut list = Vec::with_capacity(all.kept as usize);
     for r in records.chunks_exact(RECORD) {
         let finding = Finding::from_record(r);
         if finding.record() != r {
@@ -73,5 +84,5 @@ pub fn findings(m: &Model, rng: &mut Rng) -> Result<Vec<Finding>, String> {
         }
         list.push(finding);
     }
-    Ok(list)
+    Ok(Listed { total, first: list })
 }

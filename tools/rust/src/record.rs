@@ -1,4 +1,4 @@
-//! Small models written with the reference's answers, for crate recorded.
+//! Small models written with the reference's answers, for crate replay.
 //!
 //! A file is entries one after the other: the model file's length / 32 and the number of records, 16
 //! bits each, little-endian; the model file; the records, 64 bytes each, with the fields that the
@@ -13,6 +13,7 @@ use crate::handed;
 use crate::mesh::UMeshView;
 use crate::model::Model;
 use crate::ours;
+use crate::pins;
 use crate::rng::Rng;
 use crate::way::Way;
 
@@ -57,7 +58,7 @@ fn entry(m: &Model, rng: &mut Rng) -> Option<(Vec<u8>, usize)> {
     let mut bytes = ((file.len() / 32) as u16).to_le_bytes().to_vec();
     bytes.extend((theirs.len() as u16).to_le_bytes());
     bytes.extend(file);
-    for f in in_our_order(&theirs, &ours) {
+    for f in in_our_order(&theirs, &ours.first) {
         bytes.extend(f.record());
     }
     let way = match figures.map(|f| f.own()) {
@@ -94,8 +95,24 @@ fn chosen((_, make): Family, rng: &mut Rng, counts: &mut [usize; 3]) -> Vec<Vec<
     entries
 }
 
-/// Writes the files part-0, part-1, .. into a folder.
-pub fn run(folder: &str, seed: u64) -> bool {
+/// Writes the file pins into a folder: before each entry the length of the pin's name in a byte, and the name.
+fn record_pins(folder: &str, seed: u64) {
+    let rng = &mut Rng(seed);
+    let mut bytes = Vec::new();
+    let pins = pins::all();
+    for (name, model) in &pins {
+        let (entry, _) = entry(model, rng).expect("a small model");
+        bytes.push(name.len() as u8);
+        bytes.extend(name.bytes());
+        bytes.extend(entry);
+    }
+    assert!(bytes.len() <= MOST_FILE);
+    fs::write(format!("{folder}/pins"), &bytes).expect("a folder to write to");
+    println!("{} pins, {} bytes", pins.len(), bytes.len());
+}
+
+/// Writes the files part-0, part-1, .. and pins into a folder.
+pub fn run(folder: &str, seed: u64) {
     let mut parts = vec![Vec::new()];
     let mut counts = [0; 3];
     for (place, family) in FAMILIES.iter().enumerate() {
@@ -114,5 +131,5 @@ pub fn run(folder: &str, seed: u64) -> bool {
     let [nodes, triples, none] = counts;
     println!("by nodes {nodes}, by triples {triples}, no pairs sought {none}");
     println!("{} files, {bytes} bytes", parts.len());
-    true
+    record_pins(folder, seed);
 }

@@ -68,6 +68,11 @@ pub fn made(mesh: &UMeshView, tol: f64) -> Handed {
     }
 }
 
+/// The welded map alone.
+pub fn welded(mesh: &UMeshView, tol: f64) -> Vec<usize> {
+    snap::welded(mesh, tol)
+}
+
 /// Whether nodes pass the area test.
 pub fn spans(mesh: &UMeshView, nodes: &[u32], tol: f64) -> bool {
     let nodes: Vec<usize> = nodes.iter().map(|&n| n as usize).collect();

@@ -63,7 +63,7 @@ fn reference_total(mesh: &UMeshView, m: &Model) -> u64 {
 
 /// Our check on a model: how many findings.
 fn our_total(m: &Model, findings: &mut [u8], work: &mut [u32]) -> u64 {
-    let report = lenoshale::check(m.lent(), m.cap as u32, findings, work);
+    let report = lenoshale::check(m.lent(), m.cap, findings, work);
     report.expect("an accepted model").total
 }
 

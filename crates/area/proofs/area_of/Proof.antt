@@ -1,14 +1,21 @@
 -- `area::area_of` meets its contract: `ready` says what holds once there are three nodes, `judged` once the extent is above eps; the cases are those of Judged.antt.
-use mathlib.Core.Path.{_≡_, sym, _∙_}
-use lib.ListN.{drop}
+use Prim.Native.Nat.{_≤_}
+use mathlib.Core.Path.{_≡_, _∙_}
+use native.Mathlib.Omega.{arith}
+use lib.ListN.{length, drop}
 use lib.Ieee.{binary64, mul}
 use Rattle.geometry.specs.Points.{pointsOf}
-use Rattle.area.specs.AreaTest.{alongOf, spreadOf, areaOf}
-use Rattle.area.specs.Steps.{awayFrom, headed}
-use Rattle.area.proofs.Judged.{few, enough, together, apart}
+use Rattle.geometry.specs.Steps.{InNodes}
+use Rattle.area.specs.AreaTest.{spreadOf, areaOf}
+use Rattle.area.specs.Steps.{awayFrom}
+use Rattle.area.proofs.Judged.{few, enough, together, apart, Heading-says, spans, thin, no-direction}
 use borrow.Author.Needs.{needs}
 use Rattle.area.proofs.area_of.Statement.{statement}
 use Rattle.area.proofs.area_of.Tie as tie
+
+-- what the callees ask: nodes of the model, and one at least
+some : (c : tie.After-margin) → InNodes (c .before .before .before .before .before .before .before .args .coords .now) (c .before .before .before .before .before .before .before .args .nodes .now) × (1 ≤ length (c .before .before .before .before .before .before .before .args .nodes .now))
+some c = (c .before .before .before .before .before .before .before .pre, omega (arith, c .before .before .before .before .if1 .left))
 
 -- once there are three nodes: the first point, eps, and the differences
 ready : (c : tie.After-extent) →
@@ -21,15 +28,19 @@ ready c =
 
 -- once the extent is above eps: by the direction
 judged : (c : tie.After-direction) →
-    areaOf (c .before .before .before .before .before .before .before .before .before .before .args .tol) (pointsOf (c .before .before .before .before .before .before .before .before .before .before .args .coords .now) (c .before .before .before .before .before .before .before .before .before .before .args .nodes .now))
-    ≡ alongOf (mul binary64 (c .before .before .before .margin .result) (c .before .before .extent .result))
-    (awayFrom (c .before .before .before .before .before .point3 .result) (pointsOf (c .before .before .before .before .before .before .before .before .before .before .args .coords .now) (drop 1 (c .before .before .before .before .before .before .before .before .before .before .args .nodes .now)))) (headed (c .direction .result))
+    Heading-says
+    (areaOf (c .before .before .before .before .before .before .before .before .before .before .args .tol) (pointsOf (c .before .before .before .before .before .before .before .before .before .before .args .coords .now) (c .before .before .before .before .before .before .before .before .before .before .args .nodes .now)))
+    (mul binary64 (c .before .before .before .margin .result) (c .before .before .extent .result))
+    (awayFrom (c .before .before .before .before .before .point3 .result) (pointsOf (c .before .before .before .before .before .before .before .before .before .before .args .coords .now) (drop 1 (c .before .before .before .before .before .before .before .before .before .before .args .nodes .now))))
+    (c .direction .result)
 judged c =
     let a = c .before .before .before .before .before .before .before .before .before .before .args in
-    ready (c .before .before)
-    ∙ rw (c .direction .ensures, c .before .before .extent .ensures)
-    (apart (c .before .before .before .margin .result) (awayFrom (c .before .before .before .before .before .point3 .result) (pointsOf (a .coords .now) (drop 1 (a .nodes .now))))
-    (rw (c .before .before .extent .ensures) at (c .before .if2 .left)))
+    record {
+      is = ready (c .before .before)
+          ∙ rw (c .direction .ensures, c .before .before .extent .ensures)
+          (apart (c .before .before .before .margin .result) (awayFrom (c .before .before .before .before .before .point3 .result) (pointsOf (a .coords .now) (drop 1 (a .nodes .now))))
+          (rw (c .before .before .extent .ensures) at (c .before .if2 .left)));
+    }
 
 returns : tie.Need-returns
 returns c = let a = c .before .before .before .args in few (a .tol) (a .coords .now) (a .nodes .now) (c .if1 .taken)
@@ -47,7 +58,7 @@ margin-requires : tie.Need-margin-requires
 margin-requires c κs = search needs
 
 extent-requires : tie.Need-extent-requires
-extent-requires c κs = search needs
+extent-requires c κs = some c
 
 returns-2 : tie.Need-returns-2
 returns-2 c =
@@ -55,25 +66,25 @@ returns-2 c =
     rw (ready (c .before)) (together (c .before .before .margin .result) (awayFrom (c .before .before .before .before .point3 .result) (pointsOf (a .coords .now) (drop 1 (a .nodes .now)))) (rw (c .before .extent .ensures) at (c .if2 .taken)))
 
 direction-requires : tie.Need-direction-requires
-direction-requires c κs = search needs
+direction-requires c κs = some (c .before .before)
 
 enum-known-heading : tie.Need-enum-known-heading
 enum-known-heading c = search needs
 
 thick-requires : tie.Need-thick-requires
-thick-requires c κs = search needs
+thick-requires c κs = some (c .before .before .before .before .before .before)
 
 enum-told : tie.Need-enum-told
 enum-told c = search needs
 
 returns-3 : tie.Need-returns-3
-returns-3 c = rw (judged (c .before .before .before .before .before), c .before .before .before .heading .given .1) (simp (sym (c .before .thick .ensures) ∙ c .if3 .taken))
+returns-3 c = spans (judged (c .before .before .before .before .before)) (c .before .before .before .heading .given .1) (c .before .thick .ensures) (c .if3 .taken)
 
 returns-4 : tie.Need-returns-4
-returns-4 c = rw (judged (c .before .before .before .before .before), c .before .before .before .heading .given .1) (simp (sym (c .before .thick .ensures) ∙ c .if3 .left))
+returns-4 c = thin (judged (c .before .before .before .before .before)) (c .before .before .before .heading .given .1) (c .before .thick .ensures) (c .if3 .left)
 
 returns-5 : tie.Need-returns-5
-returns-5 c = rw (judged (c .before .before), c .enum-told .given .1)
+returns-5 c = no-direction (judged (c .before .before)) (c .enum-told .given .1)
 
 pub area-of-spec : {M : Type 1} → statement M
 area-of-spec =

@@ -26,7 +26,7 @@ same-length-2 c = search needs
 returns : tie.Need-returns
 returns c =
     let a = c .before .before .before .before .before .before .before .before .before .before .before .before .before .before .before .before .args in
-    let m = modelOf (a .coords .now) (a .kinds .now) (a .ends .now) (a .words .now) (a .tol) (a .flags) (a .cap) in
+    let m = modelOf (a .coords .now) (a .kinds .now) (a .ends .now) (a .words .now) (a .tolerance) (a .flags) (a .cap) in
     let k = c .before .before .before .before .before .before .before .check in
     refused-so m (a .findings .now) (a .work .now) (a .total .now) (a .kept .now) _ (c .before .a .given .1) (k .ensures)
 
@@ -39,7 +39,7 @@ same-length-4 c = search needs
 returns-2 : tie.Need-returns-2
 returns-2 c =
     let a = c .before .before .before .before .before .before .before .before .before .before .before .before .before .before .before .before .args in
-    let m = modelOf (a .coords .now) (a .kinds .now) (a .ends .now) (a .words .now) (a .tol) (a .flags) (a .cap) in
+    let m = modelOf (a .coords .now) (a .kinds .now) (a .ends .now) (a .words .now) (a .tolerance) (a .flags) (a .cap) in
     let k = c .before .before .before .before .before .before .before .check in
     report-so m (a .findings .now) (a .work .now) (a .total .now) (a .kept .now) _ _ (c .before .a2 .given .1) (k .ensures)
 

@@ -21,14 +21,14 @@ cast-result c = search needs
 returns : tie.Need-returns
 returns c =
     let a = c .before .before .before .before .before .before .before .before .args in
-    let m = modelOf (a .coords .now) (a .kinds .now) (a .ends .now) (a .words .now) (a .tol) (a .flags) 0 in
+    let m = modelOf (a .coords .now) (a .kinds .now) (a .ends .now) (a .words .now) (a .tolerance) (a .flags) 0 in
     let t = c .before .before .before .accept in
-    work-refused m (a .need .now) (a .rings .now) (a .faces .now) (t .result) (t .ensures) (c .before .if1 .taken)
+    work-refused m (a .need .now) (a .ring-words .now) (a .faces .now) (t .result) (t .ensures) (c .before .if1 .taken)
 
 work-needed-requires : tie.Need-work-needed-requires
 work-needed-requires c κs =
     let a = c .before .before .before .before .before .before .before .args in
-    let m = modelOf (a .coords .now) (a .kinds .now) (a .ends .now) (a .words .now) (a .tol) (a .flags) 0 in
+    let m = modelOf (a .coords .now) (a .kinds .now) (a .ends .now) (a .words .now) (a .tolerance) (a .flags) 0 in
     let t = c .before .before .accept in
     let ok = sym (t .ensures .refusal) ∙ c .if1 .left in
     let k = accepts m ok in
@@ -37,9 +37,9 @@ work-needed-requires c κs =
 returns-2 : tie.Need-returns-2
 returns-2 c =
     let a = c .before .before .before .before .before .before .before .before .args in
-    let m = modelOf (a .coords .now) (a .kinds .now) (a .ends .now) (a .words .now) (a .tol) (a .flags) 0 in
+    let m = modelOf (a .coords .now) (a .kinds .now) (a .ends .now) (a .words .now) (a .tolerance) (a .flags) 0 in
     let t = c .before .before .before .accept in
-    work-done m (a .need .now) (a .rings .now) (a .faces .now) (t .result) (t .ensures) _ (c .before .if1 .left) (c .work-needed .ensures)
+    work-done m (a .need .now) (a .ring-words .now) (a .faces .now) (t .result) (t .ensures) _ (c .before .if1 .left) (c .work-needed .ensures)
 
 pub lenoshale-work-needed-spec : {M : Type 1} → statement M
 lenoshale-work-needed-spec =

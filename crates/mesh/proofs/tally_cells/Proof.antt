@@ -8,7 +8,7 @@ use Rattle.mesh.specs.Acceptance.{nodeOff}
 use borrow.Author.Tests.{not-true}
 use mathlib.Core.Path.{refl, sym, _∙_}
 use lib.ListN.{length, getD}
-use Prim.Native.Nat.{_-_}
+use Prim.Native.Nat.{_+_, _-_}
 
 abbrev Inv-loop : tie.InvT-loop
 Inv-loop kinds ends words nodes below sound faces₀ ring-words₀ at₀ before₀ i₀ faces ring-words at before i = Counting kinds ends words nodes faces ring-words at before i
@@ -43,30 +43,30 @@ shared-slice-read-kind c = search needs
 
 mul-tally-cell : tie.Need-mul-tally-cell Inv-loop μ-loop
 mul-tally-cell c =
-    let at = c .before .before .before .before in
-    let s = c .before .before .before .before .before .before .before .before .before .before in
-    let p = next-end (s .args .kinds .now) (s .args .ends .now) (s .args .words .now) (s .args .nodes) (at .loop .faces) (at .loop .ring-words) (at .loop .at) (at .loop .before) (at .loop .i) (at .loop .inv) (s .pre .0) (omega arith) in
+    let l = c .before .before .before in
+    let s = l .before .before .before .before .before .before .before in
+    let p = next-end (l .before .loop .inv) (s .pre .0) (l .loop-test .taken) in
     omega (arith, p .0, p .1, s .pre .3)
 
 sub-tally-cell : tie.Need-sub-tally-cell Inv-loop μ-loop
 sub-tally-cell c =
-    let at = c .before .before .before .before in
-    let s = c .before .before .before .before .before .before .before .before .before .before in
-    let p = next-end (s .args .kinds .now) (s .args .ends .now) (s .args .words .now) (s .args .nodes) (at .loop .faces) (at .loop .ring-words) (at .loop .at) (at .loop .before) (at .loop .i) (at .loop .inv) (s .pre .0) (omega arith) in
+    let l = c .before .before .before in
+    let s = l .before .before .before .before .before .before .before in
+    let p = next-end (l .before .loop .inv) (s .pre .0) (l .loop-test .taken) in
     omega (arith, p .0, p .1, c .before .wide .ensures .0)
 
 part-tally-cell-start : tie.Need-part-tally-cell-start Inv-loop μ-loop
 part-tally-cell-start c =
-    let at = c .before .before .before .before in
-    let s = c .before .before .before .before .before .before .before .before .before .before in
-    let p = next-end (s .args .kinds .now) (s .args .ends .now) (s .args .words .now) (s .args .nodes) (at .loop .faces) (at .loop .ring-words) (at .loop .at) (at .loop .before) (at .loop .i) (at .loop .inv) (s .pre .0) (omega arith) in
+    let l = c .before .before .before in
+    let s = l .before .before .before .before .before .before .before in
+    let p = next-end (l .before .loop .inv) (s .pre .0) (l .loop-test .taken) in
     omega (arith, p .0, p .1, c .before .wide .ensures .0)
 
 part-tally-cell-end : tie.Need-part-tally-cell-end Inv-loop μ-loop
 part-tally-cell-end c =
-    let at = c .before .before .before .before in
-    let s = c .before .before .before .before .before .before .before .before .before .before in
-    let p = next-end (s .args .kinds .now) (s .args .ends .now) (s .args .words .now) (s .args .nodes) (at .loop .faces) (at .loop .ring-words) (at .loop .at) (at .loop .before) (at .loop .i) (at .loop .inv) (s .pre .0) (omega arith) in
+    let l = c .before .before .before in
+    let s = l .before .before .before .before .before .before .before in
+    let p = next-end (l .before .loop .inv) (s .pre .0) (l .loop-test .taken) in
     omega (arith, p .0, p .1, c .before .wide .ensures .0)
 
 tally-cell-requires : tie.Need-tally-cell-requires Inv-loop μ-loop
@@ -85,45 +85,53 @@ refused-requires c κs = search needs
 
 returns : tie.Need-returns Inv-loop μ-loop
 returns c =
-    let s = c .before .before .before .before .before .before .before .before .before .before .before .before .before .before .before in
-    let at = c .before .before .before .before .before .before .before .before .before in
+    let l = c .before .before .before .before .before .before .before .before in
+    let s = l .before .before .before .before .before .before .before in
     let t = c .before .before .before .tally-cell in
     let z = c .before .if1 .taken in
     let e = c .refused .ensures .0 in
-    cells-refused (s .args .nodes) _ _ (e ∙ refused-at (s .args .kinds .now) (s .args .ends .now) (s .args .words .now) (s .args .nodes) (at .loop .faces) (at .loop .ring-words) (at .loop .at) (at .loop .before) (at .loop .i) (at .loop .inv) (s .pre .0) (c .before .before .before .before .before .before .before .before .loop-test .taken) _ (c .before .before .before .before .before .before .wide .ensures .0) (c .before .before .before .tally-cell .result) (t .ensures) z) (λ y. z (sym e ∙ y)) (c .refused .ensures .1) (c .refused .ensures .2)
+    let r = refused-at (l .before .loop .inv) (s .pre .0) (l .loop-test .taken) (c .before .before .before .before .before .before .wide .ensures .0) (t .result) (t .ensures) z in
+    cells-refused (s .args .nodes) _ _ (e ∙ r) (λ y. z (sym e ∙ y)) (c .refused .ensures .1) (c .refused .ensures .2)
+
+-- a cell that passes is counted
+abbrev Counted : tie.Else1 Inv-loop μ-loop → Type 0
+Counted c =
+    let at = c .before .before .before .before .before .before .before .before .loop in
+    let a = c .before .before .before .before .before .before .before .before .before .before .before .before .before .before .args in
+    let t = c .before .before .tally-cell .result in
+    Counting (a .kinds .now) (a .ends .now) (a .words .now) (a .nodes) (at .faces + t .faces) (at .ring-words + t .words) (c .before .before .before .before .before .wide .result) (getD (a .kinds .now) (at .i) 0) (at .i + 1)
+
+counted : (c : tie.Else1 Inv-loop μ-loop) → Counted c
+counted c =
+    let l = c .before .before .before .before .before .before .before in
+    let t = c .before .before .tally-cell in
+    counting-at (l .before .loop .inv) ((l .before .before .before .before .before .before .before) .pre .0) (l .loop-test .taken) (c .before .before .before .before .before .wide .ensures .0) (t .result) (t .ensures) (c .if1 .left)
 
 add-faces : tie.Need-add-faces Inv-loop μ-loop
 add-faces c =
-    let s = c .before .before .before .before .before .before .before .before .before .before .before .before .before .before .before in
-    let at = c .before .before .before .before .before .before .before .before .before in
-    let k = counting-at (s .args .kinds .now) (s .args .ends .now) (s .args .words .now) (s .args .nodes) (at .loop .faces) (at .loop .ring-words) (at .loop .at) (at .loop .before) (at .loop .i) (at .loop .inv) (s .pre .0) (c .before .before .before .before .before .before .before .before .loop-test .taken) _ (c .before .before .before .before .before .before .wide .ensures .0) (c .before .before .before .tally-cell .result) (c .before .before .before .tally-cell .ensures) (c .before .if1 .left) in
-    omega (arith, k .few, c .before .before .before .before .before .before .wide .ensures .1, s .pre .2)
+    let d = c .before in
+    let k = counted d in
+    omega (arith, k .few, k .seen, d .before .before .before .before .before .wide .ensures .1, (d .before .before .before .before .before .before .before .before .before .before .before .before .before .before) .pre .2)
 
 add-ring-words : tie.Need-add-ring-words Inv-loop μ-loop
 add-ring-words c =
-    let s = c .before .before .before .before .before .before .before .before .before .before .before .before .before .before .before .before in
-    let at = c .before .before .before .before .before .before .before .before .before .before in
-    let k = counting-at (s .args .kinds .now) (s .args .ends .now) (s .args .words .now) (s .args .nodes) (at .loop .faces) (at .loop .ring-words) (at .loop .at) (at .loop .before) (at .loop .i) (at .loop .inv) (s .pre .0) (c .before .before .before .before .before .before .before .before .before .loop-test .taken) _ (c .before .before .before .before .before .before .before .wide .ensures .0) (c .before .before .before .before .tally-cell .result) (c .before .before .before .before .tally-cell .ensures) (c .before .before .if1 .left) in
-    omega (arith, k .small, c .before .before .before .before .before .before .before .wide .ensures .1, s .pre .2)
+    let d = c .before .before in
+    let k = counted d in
+    omega (arith, k .small, k .seen, d .before .before .before .before .before .wide .ensures .1, (d .before .before .before .before .before .before .before .before .before .before .before .before .before .before) .pre .2)
 
 add-i : tie.Need-add-i Inv-loop μ-loop
-add-i c = search needs
+add-i c = let l = c .before .before .before .before .before .before .before .before .before in omega (arith, l .loop-test .taken, (l .before .before .before .before .before .before .before) .pre .2)
 
 loop-less : tie.Need-loop-less Inv-loop μ-loop
-loop-less c = search needs
+loop-less c = omega (arith, c .before .before .before .before .before .before .before .before .before .loop-test .taken)
 
 loop-again : tie.Need-loop-again Inv-loop μ-loop
-loop-again c =
-    let s = c .before .before .before .before .before .before .before .before .before .before .before .before .before .before .before .before in
-    let at = c .before .before .before .before .before .before .before .before .before .before in
-    let t = c .before .before .before .before .tally-cell in
-    counting-at (s .args .kinds .now) (s .args .ends .now) (s .args .words .now) (s .args .nodes) (at .loop .faces) (at .loop .ring-words) (at .loop .at) (at .loop .before) (at .loop .i) (at .loop .inv) (s .pre .0) (c .before .before .before .before .before .before .before .before .before .loop-test .taken) _ (c .before .before .before .before .before .before .before .wide .ensures .0) (c .before .before .before .before .tally-cell .result) (t .ensures) (c .before .before .if1 .left)
+loop-again c = counted (c .before .before)
 
 returns-2 : tie.Need-returns-2 Inv-loop μ-loop
 returns-2 c =
-    let at = c .before in
     let s = c .before .before .before .before .before .before .before in
-    counting-end (s .args .kinds .now) (s .args .ends .now) (s .args .words .now) (s .args .nodes) (at .loop .faces) (at .loop .ring-words) (at .loop .at) (at .loop .before) (at .loop .i) _ (at .loop .inv) (s .pre .2) (s .pre .3) (omega arith) refl refl refl
+    counting-end _ (c .before .loop .inv) (s .pre .2) (s .pre .3) (omega arith) refl refl refl
 
 pub tally-cells-spec : {M : Type 1} → statement M
 tally-cells-spec =

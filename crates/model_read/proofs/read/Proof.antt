@@ -2,12 +2,18 @@ use mathlib.Core.Bool.{false}
 use mathlib.Core.Path.{_≡_, sym, _∙_}
 use native.Mathlib.Omega.{arith}
 use lib.ListN.{length}
-use borrow.Author.Needs.{needs}
+use Rattle.laws.specs.Lists.{All}
 use Rattle.model_file.specs.File.{lengthOff}
+use Rattle.model_file.specs.Held.{Byte}
+use Rattle.model_file.proofs.Numbers.{all-known}
 use Rattle.model_read.specs.Steps.{short, Fitting}
-use Rattle.model_read.proofs.Answering.{Whole, length-whole, last-lent, found-is, refused-length, refused-records, refused-room, refused-none, fitting, reading-refused, reading-done}
+use Rattle.model_read.proofs.Answering.{Whole, length-whole, last-lent, last-long, found-is, refused-length, refused-records, refused-room, refused-none, fitting, reading-refused, reading-done}
 use Rattle.model_read.proofs.read.Statement.{statement}
 use Rattle.model_read.proofs.read.Tie as tie
+
+-- the bytes are bytes
+each-byte : (c : tie.After-shared-slice-known) → All Byte (c .before .args .bytes .now)
+each-byte c = all-known Byte 0 (c .before .args .bytes .now) (λ i. c .shared-slice-known .given i .fits)
 
 -- the length is right
 right-length : (c : tie.Else1) → lengthOff (length (c .before .before .before .before .before .before .before .args .bytes .now)) ≡ false
@@ -27,17 +33,17 @@ fits c =
     fitting (a .bytes .now) (a .coords .now) (a .kinds .now) (a .ends .now) (a .words .now) (j .result) (j .ensures) (c .before .before .before .if2 .left) (right-length (c .before .before .before .before .before .before)) (room c)
 
 length-off-requires : tie.Need-length-off-requires
-length-off-requires c κs = search needs
+length-off-requires c κs = tt
 
 returns : tie.Need-returns
 returns c =
     let a = c .before .before .before .before .before .before .before .args in
-    reading-refused (a .bytes .now) (a .coords .now) (a .kinds .now) (a .ends .now) (a .words .now) 1
+    reading-refused (a .bytes .now) (a .coords .now) (a .kinds .now) (a .ends .now) (a .words .now) (each-byte (c .before .before .before .before .before .before)) 1
     (refused-length (a .bytes .now) (a .coords .now) (a .kinds .now) (a .ends .now) (a .words .now) (sym (c .before .length-off .ensures) ∙ c .if1 .taken))
     (λ z. omega arith)
 
 leading-nodes-requires : tie.Need-leading-nodes-requires
-leading-nodes-requires c κs = search needs
+leading-nodes-requires c κs = tt
 
 judge-all-requires : tie.Need-judge-all-requires
 judge-all-requires c κs = (whole (c .before) .whole, whole (c .before) .few, c .leading-nodes .ensures)
@@ -47,18 +53,18 @@ returns-2 c =
     let a = c .before .before .before .before .before .before .before .before .before .before .args in
     let j = c .before .judge-all in
     let e = j .ensures .refusal in
-    reading-refused (a .bytes .now) (a .coords .now) (a .kinds .now) (a .ends .now) (a .words .now) (j .result .refusal)
+    reading-refused (a .bytes .now) (a .coords .now) (a .kinds .now) (a .ends .now) (a .words .now) (each-byte (c .before .before .before .before .before .before .before .before .before)) (j .result .refusal)
     (refused-records (a .bytes .now) (a .coords .now) (a .kinds .now) (a .ends .now) (a .words .now) (right-length (c .before .before .before)) (λ z. c .if2 .taken (e ∙ z)) ∙ sym e)
     (c .if2 .taken)
 
 room-off-requires : tie.Need-room-off-requires
-room-off-requires c κs = search needs
+room-off-requires c κs = tt
 
 returns-3 : tie.Need-returns-3
 returns-3 c =
     let a = c .before .before .before .before .before .before .before .before .before .before .before .before .before .args in
     let j = c .before .before .before .before .judge-all in
-    reading-refused (a .bytes .now) (a .coords .now) (a .kinds .now) (a .ends .now) (a .words .now) 4
+    reading-refused (a .bytes .now) (a .coords .now) (a .kinds .now) (a .ends .now) (a .words .now) (each-byte (c .before .before .before .before .before .before .before .before .before .before .before .before)) 4
     (refused-room (a .bytes .now) (a .coords .now) (a .kinds .now) (a .ends .now) (a .words .now) (j .result) (j .ensures) (c .before .before .before .if2 .left) (right-length (c .before .before .before .before .before .before)) (sym (c .before .room-off .ensures) ∙ c .if3 .taken))
     (λ z. omega arith)
 
@@ -69,28 +75,28 @@ sub-last : tie.Need-sub-last
 sub-last c = omega (arith, whole (c .before .before .before .before .before .before .before .before .before .before .before .before .before .before .before .before .before .before .before) .some, whole (c .before .before .before .before .before .before .before .before .before .before .before .before .before .before .before .before .before .before .before) .whole)
 
 sub-found-in : tie.Need-sub-found-in
-sub-found-in c = search needs
+sub-found-in c = omega arith
 
 part-found-in-start : tie.Need-part-found-in-start
-part-found-in-start c = search needs
+part-found-in-start c = omega arith
 
 part-found-in-end : tie.Need-part-found-in-end
-part-found-in-end c = search needs
+part-found-in-end c = omega arith
 
 found-in-requires : tie.Need-found-in-requires
-found-in-requires c κs = omega (arith, whole (c .before .before .before .before .before .before .before .before .before .before .before .before .before .before .before .before .before .before .before .before) .some, whole (c .before .before .before .before .before .before .before .before .before .before .before .before .before .before .before .before .before .before .before .before) .whole)
+found-in-requires c κs = let w = whole (c .before .before .before .before .before .before .before .before .before .before .before .before .before .before .before .before .before .before .before .before) in last-long (c .before .before .before .before .before .before .before .before .before .before .before .before .before .before .before .before .before .before .before .before .before .before .before .before .before .before .before .args .bytes .now) (w .some) (w .whole)
 
 same-length : tie.Need-same-length
-same-length c = search needs
+same-length c = c .before .before .before .before .before .before .before .before .before .before .fill-all .kept .1 .0
 
 same-length-2 : tie.Need-same-length-2
-same-length-2 c = search needs
+same-length-2 c = c .before .before .before .before .before .before .before .before .before .before .fill-all .kept .1 .1 .0
 
 same-length-3 : tie.Need-same-length-3
-same-length-3 c = search needs
+same-length-3 c = c .before .before .before .before .before .before .before .before .before .before .fill-all .kept .1 .1 .1 .0
 
 same-length-4 : tie.Need-same-length-4
-same-length-4 c = search needs
+same-length-4 c = c .before .before .before .before .before .before .before .before .before .before .fill-all .kept .1 .1 .1 .1 .0
 
 returns-4 : tie.Need-returns-4
 returns-4 c =
@@ -100,7 +106,7 @@ returns-4 c =
     let j = c .before .before .before .before .before .before .before .before .before .before .before .before .before .before .before .before .before .before .before .judge-all in
     let z = c .before .before .before .before .before .before .before .before .before .before .before .before .before .before .before .before .before .before .if2 .left in
     let e = c .before .before .before .before .before .before .before .before .before .before .fill-all in
-    reading-done s (a .coords .now) (a .kinds .now) (a .ends .now) (a .words .now) (e .last .1 .0) (e .last .1 .1 .0) (e .last .1 .1 .1 .0) (e .last .1 .1 .1 .1 .0) (c .found-in .result)
+    reading-done s (a .coords .now) (a .kinds .now) (a .ends .now) (a .words .now) (each-byte (c .before .before .before .before .before .before .before .before .before .before .before .before .before .before .before .before .before .before .before .before .before .before .before .before .before .before .before)) (e .last .1 .0) (e .last .1 .1 .0) (e .last .1 .1 .1 .0) (e .last .1 .1 .1 .1 .0) (c .found-in .result)
     (c .found-in .ensures ∙ found-is s _ (j .result .place) (last-lent s (w .some) (w .whole)) (j .ensures .coords z) (j .ensures .cells z) (j .ensures .words z))
     (refused-none s (a .coords .now) (a .kinds .now) (a .ends .now) (a .words .now) (j .result) (j .ensures) z (right-length (c .before .before .before .before .before .before .before .before .before .before .before .before .before .before .before .before .before .before .before .before .before)) (room (c .before .before .before .before .before .before .before .before .before .before .before .before .before .before .before)))
     (fits (c .before .before .before .before .before .before .before .before .before .before .before .before .before .before .before)) (e .ensures)

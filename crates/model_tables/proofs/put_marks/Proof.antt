@@ -5,18 +5,18 @@ use mathlib.Core.List.{List}
 use lib.Seq.{sets}
 use Rattle.mesh.specs.Model.{cellsFrom}
 use Rattle.tables.specs.Owners.{ownersFrom}
-use borrow.Author.Needs.{needs}
+use native.Mathlib.Omega.{arith}
 use Rattle.model_tables.proofs.put_marks.Statement.{statement}
 use Rattle.model_tables.proofs.put_marks.Tie as tie
 
 put-bows-requires : tie.Need-put-bows-requires
-put-bows-requires c κs = search needs
+put-bows-requires c κs = let p = c .before .before .before .before .before .before .before .pre in (p .1, p .2, p .3)
 
 put-owners-requires : tie.Need-put-owners-requires
-put-owners-requires c κs = search needs
+put-owners-requires c κs = let p = c .before .before .before .before .before .before .before .before .before .before .before .pre in (p .0, omega (arith, p .4, c .before .before .before .put-bows .kept .1 .1 .0))
 
 same-length : tie.Need-same-length
-same-length c = search needs
+same-length c = c .before .before .put-owners .kept .1 .1 .1 .0 ∙ c .before .before .before .before .before .before .put-bows .kept .1 .1 .0
 
 returns : tie.Need-returns
 returns c =

@@ -1,11 +1,12 @@
 -- `model_tables::put_nodes` meets its contract: the keys stand, and the node sets behind them.
 use Rattle.model_tables.proofs.Nodes.{keys-stand, sets-stand}
+use native.Mathlib.Omega.{arith}
 use borrow.Author.Needs.{needs}
 use Rattle.model_tables.proofs.put_nodes.Statement.{statement}
 use Rattle.model_tables.proofs.put_nodes.Tie as tie
 
 put-keys-requires : tie.Need-put-keys-requires
-put-keys-requires c κs = search needs
+put-keys-requires c κs = let p = c .before .before .pre in (p .0, p .1, omega (arith, p .2, p .3, p .4))
 
 put-sets-requires : tie.Need-put-sets-requires
 put-sets-requires c κs =

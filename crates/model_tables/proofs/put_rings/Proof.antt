@@ -7,6 +7,7 @@ use Rattle.laws.specs.Merging.{startsOf}
 use Rattle.mesh.specs.Model.{cellsFrom}
 use Rattle.mesh.specs.Rings.{ringsOf}
 use Rattle.faces.specs.Spans.{ringsIn}
+use native.Mathlib.Omega.{arith}
 use borrow.Author.Needs.{needs}
 use Rattle.model_tables.proofs.put_rings.Statement.{statement}
 use Rattle.model_tables.proofs.put_rings.Tie as tie
@@ -15,10 +16,12 @@ put-cells-requires : tie.Need-put-cells-requires
 put-cells-requires c κs = search needs
 
 put-rows-requires : tie.Need-put-rows-requires
-put-rows-requires c κs = search needs
+put-rows-requires c κs = let p = c .before .before .before .before .before .before .before .before .before .pre in (p .0, omega (arith, p .1 .1, c .before .before .before .put-cells .kept .1 .1 .1 .0))
 
 put-firsts-requires : tie.Need-put-firsts-requires
-put-firsts-requires c κs = search needs
+put-firsts-requires c κs =
+    let p = c .before .before .before .before .before .before .before .before .before .before .before .before .before .pre in
+    (p .0, omega (arith, p .1 .2, c .before .before .before .put-rows .kept .1 .1 .1 .0, c .before .before .before .before .before .before .before .put-cells .kept .1 .1 .1 .0))
 
 same-length : tie.Need-same-length
 same-length c = search needs

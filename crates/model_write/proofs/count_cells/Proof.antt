@@ -5,7 +5,6 @@ use mathlib.Core.Path.{_≡_, sym, ap, _∙_, subst}
 use native.Mathlib.Omega.{arith}
 use native.Mathlib.Nat.{add-zero}
 use lib.ListN.{length, getD, drop}
-use borrow.Author.Needs.{needs}
 use Rattle.mesh.specs.Acceptance.{endsOff}
 use Rattle.model_file.proofs.Chop.{cells-few}
 use Rattle.model_file.specs.Steps.{cells}
@@ -31,16 +30,16 @@ size : (c : tie.After-cell-size Inv-loop μ-loop) → c .cell-size .result ≡ 1
 size c = c .cell-size .ensures ∙ ap (λ (x : ℕ). 1 + (x - c .before .before .before .before .loop .from - 1) / 14) (c .before .wide .ensures .0)
 
 loop-holds : tie.Need-loop-holds Inv-loop μ-loop
-loop-holds c = (search needs, c .before .before .before .pre .order, omega arith)
+loop-holds c = (omega arith, c .before .before .before .pre .order, omega arith)
 
 mul-wide : tie.Need-mul-wide Inv-loop μ-loop
-mul-wide c = search needs
+mul-wide c = omega arith
 
 shared-slice-read-wide : tie.Need-shared-slice-read-wide Inv-loop μ-loop
 shared-slice-read-wide c = omega (arith, c .before .loop-test .taken, c .before .before .before .before .before .before .pre .equal)
 
 wide-requires : tie.Need-wide-requires Inv-loop μ-loop
-wide-requires c κs = search needs
+wide-requires c κs = tt
 
 sub-cell-size : tie.Need-sub-cell-size Inv-loop μ-loop
 sub-cell-size c = omega (arith, step c .low, c .wide .ensures .0)

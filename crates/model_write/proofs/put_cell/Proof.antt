@@ -4,7 +4,6 @@ use mathlib.Core.Path.{ap, _∙_}
 use native.Mathlib.Omega.{arith}
 use lib.Seq.{sets}
 use lib.ListN.{take, drop}
-use borrow.Author.Needs.{needs}
 use Rattle.model_file.specs.File.{moreRecords}
 use Rattle.model_file.specs.Steps.{join}
 use Rattle.model_write.proofs.Passes.{cell-more}
@@ -12,25 +11,25 @@ use Rattle.model_write.proofs.put_cell.Statement.{statement}
 use Rattle.model_write.proofs.put_cell.Tie as tie
 
 at-most-14-requires : tie.Need-at-most-14-requires
-at-most-14-requires c κs = search needs
+at-most-14-requires c κs = tt
 
 put-record-at-requires : tie.Need-put-record-at-requires
-put-record-at-requires c κs = search needs
+put-record-at-requires c κs = omega (arith, c .before .before .before .before)
 
 add-put-mores : tie.Need-add-put-mores
-add-put-mores c = search needs
+add-put-mores c = omega (arith, c .before .before .before .before .before .before .before .before)
 
 add-put-mores-2 : tie.Need-add-put-mores-2
-add-put-mores-2 c = search needs
+add-put-mores-2 c = omega (arith, c .before .before .before .before .before .before .before .before)
 
 sub-put-mores : tie.Need-sub-put-mores
-sub-put-mores c = search needs
+sub-put-mores c = omega (arith, c .before .before .before .before .before .before .before .before)
 
 put-mores-requires : tie.Need-put-mores-requires
-put-mores-requires c κs = search needs
+put-mores-requires c κs = omega (arith, c .before .before .before .before .before .before .before .before)
 
 same-length : tie.Need-same-length
-same-length c = search needs
+same-length c = c .before .before .put-mores .kept .0 ∙ c .before .before .before .before .before .before .put-record-at .kept .0
 
 returns : tie.Need-returns
 returns c =

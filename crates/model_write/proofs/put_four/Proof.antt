@@ -1,76 +1,77 @@
-use borrow.Author.Needs.{needs}
+use native.Mathlib.Omega.{arith}
+use mathlib.Core.Path.{_∙_}
 use Rattle.model_write.proofs.Putting.{four-put}
 use Rattle.model_write.proofs.put_four.Statement.{statement}
 use Rattle.model_write.proofs.put_four.Tie as tie
 
 mul-narrow-of : tie.Need-mul-narrow-of
-mul-narrow-of c = search needs
+mul-narrow-of c = omega (arith, c .before .before)
 
 shared-slice-read-narrow-of : tie.Need-shared-slice-read-narrow-of
-shared-slice-read-narrow-of c = search needs
+shared-slice-read-narrow-of c = omega (arith, c .before .before .before)
 
 narrow-of-requires : tie.Need-narrow-of-requires
-narrow-of-requires c κs = search needs
+narrow-of-requires c κs = tt
 
 add-narrow-of : tie.Need-add-narrow-of
-add-narrow-of c = search needs
+add-narrow-of c = omega (arith, c .before .before .before .before)
 
 mul-narrow-of-2 : tie.Need-mul-narrow-of-2
-mul-narrow-of-2 c = search needs
+mul-narrow-of-2 c = omega (arith, c .before .before .before .before)
 
 shared-slice-read-narrow-of-2 : tie.Need-shared-slice-read-narrow-of-2
-shared-slice-read-narrow-of-2 c = search needs
+shared-slice-read-narrow-of-2 c = omega (arith, c .before .before .before .before .before)
 
 narrow-of-requires-2 : tie.Need-narrow-of-requires-2
-narrow-of-requires-2 c κs = search needs
+narrow-of-requires-2 c κs = tt
 
 add-narrow-of-2 : tie.Need-add-narrow-of-2
-add-narrow-of-2 c = search needs
+add-narrow-of-2 c = omega (arith, c .before .before .before .before .before .before)
 
 mul-narrow-of-3 : tie.Need-mul-narrow-of-3
-mul-narrow-of-3 c = search needs
+mul-narrow-of-3 c = omega (arith, c .before .before .before .before .before .before)
 
 shared-slice-read-narrow-of-3 : tie.Need-shared-slice-read-narrow-of-3
-shared-slice-read-narrow-of-3 c = search needs
+shared-slice-read-narrow-of-3 c = omega (arith, c .before .before .before .before .before .before .before)
 
 narrow-of-requires-3 : tie.Need-narrow-of-requires-3
-narrow-of-requires-3 c κs = search needs
+narrow-of-requires-3 c κs = tt
 
 add-narrow-of-3 : tie.Need-add-narrow-of-3
-add-narrow-of-3 c = search needs
+add-narrow-of-3 c = omega (arith, c .before .before .before .before .before .before .before .before)
 
 mul-narrow-of-4 : tie.Need-mul-narrow-of-4
-mul-narrow-of-4 c = search needs
+mul-narrow-of-4 c = omega (arith, c .before .before .before .before .before .before .before .before)
 
 shared-slice-read-narrow-of-4 : tie.Need-shared-slice-read-narrow-of-4
-shared-slice-read-narrow-of-4 c = search needs
+shared-slice-read-narrow-of-4 c = omega (arith, c .before .before .before .before .before .before .before .before .before)
 
 narrow-of-requires-4 : tie.Need-narrow-of-requires-4
-narrow-of-requires-4 c κs = search needs
+narrow-of-requires-4 c κs = tt
 
 put-bytes-requires : tie.Need-put-bytes-requires
-put-bytes-requires c κs = search needs
+put-bytes-requires c κs = omega (arith, c .before .before .before .before .before .before .before .before .before .before .before)
 
 add-put-bytes : tie.Need-add-put-bytes
-add-put-bytes c = search needs
+add-put-bytes c = omega (arith, c .before .before .before .before .before .before .before .before .before .before .before .before .before .before .before)
 
 put-bytes-requires-2 : tie.Need-put-bytes-requires-2
-put-bytes-requires-2 c κs = search needs
+put-bytes-requires-2 c κs = omega (arith, c .before .before .before .before .before .before .before .before .before .before .before .before .before .before .before)
 
 add-put-bytes-2 : tie.Need-add-put-bytes-2
-add-put-bytes-2 c = search needs
+add-put-bytes-2 c = omega (arith, c .before .before .before .before .before .before .before .before .before .before .before .before .before .before .before .before .before .before .before)
 
 put-bytes-requires-3 : tie.Need-put-bytes-requires-3
-put-bytes-requires-3 c κs = search needs
+put-bytes-requires-3 c κs = omega (arith, c .before .before .before .before .before .before .before .before .before .before .before .before .before .before .before .before .before .before .before)
 
 add-put-bytes-3 : tie.Need-add-put-bytes-3
-add-put-bytes-3 c = search needs
+add-put-bytes-3 c = omega (arith, c .before .before .before .before .before .before .before .before .before .before .before .before .before .before .before .before .before .before .before .before .before .before .before)
 
 put-bytes-requires-4 : tie.Need-put-bytes-requires-4
-put-bytes-requires-4 c κs = search needs
+put-bytes-requires-4 c κs = omega (arith, c .before .before .before .before .before .before .before .before .before .before .before .before .before .before .before .before .before .before .before .before .before .before .before)
 
 same-length : tie.Need-same-length
-same-length c = search needs
+same-length c = c .before .before .put-bytes4 .kept .0 ∙ c .before .before .before .before .before .before .put-bytes3 .kept .0 ∙ c .before .before .before .before .before .before .before .before .before .before .put-bytes2 .kept .0 ∙ c .before .before .before .before .before .before .before .before .before .before .before .before .before .before .put-bytes .kept .0
 
 returns : tie.Need-returns
 returns c =

@@ -1,7 +1,6 @@
 use mathlib.Core.Path.{_≡_, sym, ap, _∙_}
 use native.Mathlib.Omega.{arith}
 use lib.ListN.{length, set, length-set}
-use borrow.Author.Needs.{needs}
 use Rattle.model_file.specs.Records.{lastRecord}
 use Rattle.model_write.proofs.Putting.{last-put}
 use Rattle.model_write.proofs.put_last.Statement.{statement}
@@ -18,10 +17,10 @@ written c =
     last-put (a .r .now) (e1 .last .0) (e2 .last .0) (e3 .last .0) (e4 .last .0) (a .flags) (a .cap) (a .tolerance) (e1 .ensures) (e2 .ensures) (e3 .ensures) (e4 .ensures) (c .before .before .before .before .before .before .before .before .before .before .before .before .before .before .before .before .before .pre)
 
 slice-write-r : tie.Need-slice-write-r
-slice-write-r c = search needs
+slice-write-r c = omega (arith, c .before)
 
 slice-write-r-2 : tie.Need-slice-write-r-2
-slice-write-r-2 c = search needs
+slice-write-r-2 c = simp length-set (omega (arith, c .before))
 
 put-bytes-requires : tie.Need-put-bytes-requires
 put-bytes-requires c κs =

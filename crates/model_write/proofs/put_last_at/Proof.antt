@@ -2,6 +2,7 @@ use Prim.Native.Nat.{ℕ, _+_, _-_}
 use mathlib.Core.List.{List, _++_}
 use mathlib.Core.Path.{refl, ap, _∙_}
 use lib.ListN.{take, drop}
+use native.Mathlib.Omega.{arith}
 use borrow.Author.Needs.{needs}
 use Rattle.model_file.specs.Records.{lastRecord}
 use Rattle.laws.proofs.Stores.{lent-sets}
@@ -9,19 +10,19 @@ use Rattle.model_write.proofs.put_last_at.Statement.{statement}
 use Rattle.model_write.proofs.put_last_at.Tie as tie
 
 add-e : tie.Need-add-e
-add-e c = search needs
+add-e c = omega (arith, c .before)
 
 sub-put-last : tie.Need-sub-put-last
-sub-put-last c = search needs
+sub-put-last c = omega (arith, c .before)
 
 part-put-last-start : tie.Need-part-put-last-start
-part-put-last-start c = search needs
+part-put-last-start c = omega (arith, c .before)
 
 part-put-last-end : tie.Need-part-put-last-end
-part-put-last-end c = search needs
+part-put-last-end c = omega (arith, c .before)
 
 put-last-requires : tie.Need-put-last-requires
-put-last-requires c κs = search needs
+put-last-requires c κs = omega (arith, c .before .before)
 
 same-length : tie.Need-same-length
 same-length c = search needs

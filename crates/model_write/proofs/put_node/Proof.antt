@@ -1,7 +1,6 @@
 use mathlib.Core.Path.{_≡_, sym, ap, _∙_}
 use native.Mathlib.Omega.{arith}
 use lib.ListN.{length, length-set}
-use borrow.Author.Needs.{needs}
 use Rattle.model_file.specs.Records.{nodeRecord}
 use Rattle.model_write.proofs.Putting.{node-put}
 use Rattle.model_write.proofs.put_node.Statement.{statement}
@@ -18,7 +17,7 @@ written c =
     node-put (a .r .now) (e1 .last .0) (e2 .last .0) (e3 .last .0) (e4 .last .0) (a .x) (a .y) (a .z) (e1 .ensures) (e2 .ensures) (e3 .ensures) (e4 .ensures) (c .before .before .before .before .before .before .before .before .before .before .before .before .before .before .before .before .before .pre)
 
 slice-write-r : tie.Need-slice-write-r
-slice-write-r c = search needs
+slice-write-r c = omega (arith, c .before)
 
 put-zeros-requires : tie.Need-put-zeros-requires
 put-zeros-requires c κs = omega (arith, length-set (c .before .before .args .r .now) 0 78)

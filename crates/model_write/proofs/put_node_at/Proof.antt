@@ -2,6 +2,7 @@ use Prim.Native.Nat.{ℕ, _+_, _-_}
 use mathlib.Core.List.{List, _++_}
 use mathlib.Core.Path.{refl, ap, _∙_}
 use lib.ListN.{take, drop}
+use native.Mathlib.Omega.{arith}
 use borrow.Author.Needs.{needs}
 use Rattle.model_file.specs.Records.{nodeRecord}
 use Rattle.laws.proofs.Stores.{lent-sets}
@@ -9,19 +10,19 @@ use Rattle.model_write.proofs.put_node_at.Statement.{statement}
 use Rattle.model_write.proofs.put_node_at.Tie as tie
 
 add-e : tie.Need-add-e
-add-e c = search needs
+add-e c = omega (arith, c .before)
 
 sub-put-node : tie.Need-sub-put-node
-sub-put-node c = search needs
+sub-put-node c = omega (arith, c .before)
 
 part-put-node-start : tie.Need-part-put-node-start
-part-put-node-start c = search needs
+part-put-node-start c = omega (arith, c .before)
 
 part-put-node-end : tie.Need-part-put-node-end
-part-put-node-end c = search needs
+part-put-node-end c = omega (arith, c .before)
 
 put-node-requires : tie.Need-put-node-requires
-put-node-requires c κs = search needs
+put-node-requires c κs = omega (arith, c .before .before)
 
 same-length : tie.Need-same-length
 same-length c = search needs

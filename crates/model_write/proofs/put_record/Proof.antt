@@ -2,23 +2,22 @@ use mathlib.Core.Path.{_≡_, sym, ap, _∙_}
 use native.Mathlib.Omega.{arith}
 use lib.Seq.{length-take-le}
 use lib.ListN.{length, take, drop, set, length-set, length-take, length-drop}
-use borrow.Author.Needs.{needs}
 use Rattle.model_file.proofs.Layouts.{word-length}
 use Rattle.model_write.proofs.Putting.{word-put}
 use Rattle.model_write.proofs.put_record.Statement.{statement}
 use Rattle.model_write.proofs.put_record.Tie as tie
 
 put-zeros-requires : tie.Need-put-zeros-requires
-put-zeros-requires c κs = search needs
+put-zeros-requires c κs = omega (arith, c .before .before .before)
 
 slice-write-r : tie.Need-slice-write-r
-slice-write-r c = search needs
+slice-write-r c = omega (arith, c .before .before .before .before .before .before)
 
 slice-write-r-2 : tie.Need-slice-write-r-2
-slice-write-r-2 c = search needs
+slice-write-r-2 c = simp length-set (omega (arith, c .before .before .before .before .before .before, c .before .before .put-zeros .kept))
 
 cast-r : tie.Need-cast-r
-cast-r c = search needs
+cast-r c = omega (arith, c .before .before .before .before .before .before)
 
 slice-write-r-3 : tie.Need-slice-write-r-3
 slice-write-r-3 c =

@@ -11,19 +11,19 @@ use Rattle.model_write.proofs.put_record_at.Statement.{statement}
 use Rattle.model_write.proofs.put_record_at.Tie as tie
 
 add-e : tie.Need-add-e
-add-e c = search needs
+add-e c = omega (arith, c .before .before)
 
 sub-put-record : tie.Need-sub-put-record
-sub-put-record c = search needs
+sub-put-record c = omega (arith, c .before .before)
 
 part-put-record-start : tie.Need-part-put-record-start
-part-put-record-start c = search needs
+part-put-record-start c = omega (arith, c .before .before)
 
 part-put-record-end : tie.Need-part-put-record-end
-part-put-record-end c = search needs
+part-put-record-end c = omega (arith, c .before .before)
 
 put-record-requires : tie.Need-put-record-requires
-put-record-requires c κs = search needs
+put-record-requires c κs = omega (arith, c .before .before .before)
 
 same-length : tie.Need-same-length
 same-length c = search needs

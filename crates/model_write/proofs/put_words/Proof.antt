@@ -1,17 +1,12 @@
-use Prim.Native.Nat.{ℕ, _+_, _*_, _-_, _≤_}
-use mathlib.Core.List.{List}
-use mathlib.Core.Path.{_≡_, refl, ap, _∙_}
+use Prim.Native.Nat.{_-_}
+use mathlib.Core.Path.{_∙_}
 use native.Mathlib.Omega.{arith}
-use lib.Seq.{sets}
-use lib.ListN.{length, take, drop}
-use borrow.Author.Needs.{needs}
-use Rattle.model_file.specs.Records.{wordBytes}
-use Rattle.model_write.proofs.Putting.{words-none, words-more}
+use Rattle.model_write.proofs.Putting.{Wording, wording-start, wording-step}
 use Rattle.model_write.proofs.put_words.Statement.{statement}
 use Rattle.model_write.proofs.put_words.Tie as tie
 
 abbrev Inv-loop : tie.InvT-loop
-Inv-loop r₀ words from n j₀ r j = (j ≤ n) × (sets r (4 + 2 * j) (wordBytes (take (n - j) (drop (from + j) words))) ≡ sets r₀ 4 (wordBytes (take n (drop from words)))) × (length r ≡ length r₀)
+Inv-loop r₀ words from n j₀ r j = Wording r₀ words 4 from n r j
 
 abbrev μ-loop : tie.MeasureT-loop
 μ-loop r₀ words from n j₀ r j = n - j
@@ -19,28 +14,28 @@ abbrev μ-loop : tie.MeasureT-loop
 loop-holds : tie.Need-loop-holds Inv-loop μ-loop
 loop-holds c =
     let a = c .before .before .args in
-    (search needs, words-none (a .r .now) (a .words .now) 4 (a .from) (a .n), refl)
+    wording-start (a .r .now) (a .words .now) 4 (a .from) (a .n)
 
 sub-loop : tie.Need-sub-loop Inv-loop μ-loop
-sub-loop c = search needs
+sub-loop c = omega (arith, c .before .before .before)
 
 mul-put-four : tie.Need-mul-put-four Inv-loop μ-loop
-mul-put-four c = search needs
+mul-put-four c = omega (arith, c .before)
 
 add-put-four : tie.Need-add-put-four Inv-loop μ-loop
-add-put-four c = search needs
+add-put-four c = omega (arith, c .before)
 
 add-put-four-2 : tie.Need-add-put-four-2 Inv-loop μ-loop
-add-put-four-2 c = search needs
+add-put-four-2 c = omega (arith, c .before)
 
 put-four-requires : tie.Need-put-four-requires Inv-loop μ-loop
-put-four-requires c κs = search needs
+put-four-requires c κs = omega (arith, c .before)
 
 add-j : tie.Need-add-j Inv-loop μ-loop
-add-j c = search needs
+add-j c = omega (arith, c .before .before .before .before)
 
 loop-less : tie.Need-loop-less Inv-loop μ-loop
-loop-less c = search needs
+loop-less c = omega (arith, c .before .before .before .before)
 
 loop-again : tie.Need-loop-again Inv-loop μ-loop
 loop-again c =
@@ -48,37 +43,30 @@ loop-again c =
     let o = f .before .before .before in
     let b = o .before .before .before in
     let a = b .args in
-    let j = o .loop .j in
-    let ws = a .words .now in (
-      search needs,
-      ap (λ (l : List ℕ). sets l (4 + 2 * (j + 4)) (wordBytes (take (a .n - (j + 4)) (drop (a .from + (j + 4)) ws)))) (f .put-four .ensures)
-          ∙ words-more (o .loop .r) ws 4 (a .from) (a .n) j 4 (omega arith) (b .pre .0)
-          ∙ o .loop .inv .1,
-      f .put-four .kept .0 ∙ o .loop .inv .2,
-    )
+    wording-step (a .r .now) (a .words .now) 4 (a .from) (a .n) (o .loop .r) (f .put-four .last .0) (o .loop .j) 4 (o .loop .inv) (omega (arith, f .before .before .loop-test .taken)) (b .pre .0) (f .put-four .ensures)
 
 mul-put-few : tie.Need-mul-put-few Inv-loop μ-loop
-mul-put-few c = search needs
+mul-put-few c = omega (arith, c .before)
 
 add-put-few : tie.Need-add-put-few Inv-loop μ-loop
-add-put-few c = search needs
+add-put-few c = omega (arith, c .before)
 
 add-put-few-2 : tie.Need-add-put-few-2 Inv-loop μ-loop
-add-put-few-2 c = search needs
+add-put-few-2 c = omega (arith, c .before)
 
 sub-put-few : tie.Need-sub-put-few Inv-loop μ-loop
-sub-put-few c = search needs
+sub-put-few c = omega (arith, c .before)
 
 put-few-requires : tie.Need-put-few-requires Inv-loop μ-loop
-put-few-requires c κs = search needs
+put-few-requires c κs = omega (arith, c .before)
 
 same-length : tie.Need-same-length Inv-loop μ-loop
-same-length c = search needs
+same-length c = c .before .before .put-few .kept .0 ∙ c .before .before .before .before .before .loop .inv .long
 
 returns : tie.Need-returns Inv-loop μ-loop
 returns c =
     let f = c .before .before in
-    f .put-few .ensures ∙ f .before .before .before .loop .inv .1
+    f .put-few .ensures ∙ f .before .before .before .loop .inv .rest
 
 pub put-words-spec : {M : Type 1} → statement M
 put-words-spec =

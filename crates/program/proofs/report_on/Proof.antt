@@ -10,7 +10,7 @@ use Rattle.program.proofs.report_on.Tie as tie
 
 -- the entry, seen from behind the check
 abbrev start : tie.After-check → tie.Start
-start d = d .before .before .before .before .before .before .before .before .before .before .before .before .before .before .before .before
+start d = d .before .before .before .before .before .before .before .before .before .before .before .before .before .before .before
 
 -- the model in the filled parts of the lists
 abbrev model : tie.Start → Model
@@ -65,9 +65,6 @@ part-check-start-4 c = search needs
 part-check-end-4 : tie.Need-part-check-end-4
 part-check-end-4 c = search needs
 
-cast-check : tie.Need-cast-check
-cast-check c = search needs
-
 check-requires : tie.Need-check-requires
 check-requires c κs = search needs
 
@@ -117,7 +114,6 @@ report-on-spec =
     sub-check-4
     part-check-start-4
     part-check-end-4
-    cast-check
     check-requires
     put-answer-requires
     same-length

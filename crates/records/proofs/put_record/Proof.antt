@@ -6,7 +6,7 @@ use mathlib.Core.List.{List, _++_}
 use mathlib.Core.Path.{refl, ap, _∙_}
 use Rattle.findings.specs.Records.{recordBytes}
 use Rattle.laws.proofs.Stores.{lent-sets}
-use Rattle.records.specs.Read.{told}
+use Rattle.records.specs.Keeping.{told}
 use Rattle.records.proofs.put_record.Statement.{statement}
 use Rattle.records.proofs.put_record.Tie as tie
 

@@ -9,7 +9,7 @@ use Rattle.findings.specs.Records.{pointBytes, recordBytes}
 use Rattle.laws.proofs.Stores.{sets-all}
 use Rattle.laws.specs.Bytes.{bytes}
 use Rattle.records.proofs.Back.{one-of-four}
-use Rattle.records.specs.Read.{told, wordBytes}
+use Rattle.records.specs.Keeping.{told, fieldBytes}
 use Rattle.records.proofs.put_whole.Statement.{statement}
 use Rattle.records.proofs.put_whole.Tie as tie
 
@@ -46,12 +46,12 @@ returns c =
     let a = b .args in
     let s = a .s .now in
     let f = told (a .r) in
-    let rest : (List ℕ → List ℕ) = λ l. sets (sets (sets (sets l 4 (wordBytes f)) 24 (bytes 8 0)) 32 (pointBytes (a .centre))) 56 (bytes 8 0) in
+    let rest : (List ℕ → List ℕ) = λ l. sets (sets (sets (sets l 4 (fieldBytes f)) 24 (bytes 8 0)) 32 (pointBytes (a .centre))) 56 (bytes 8 0) in
     c5 .put-bytes3 .ensures
     ∙ ap (λ (l : List ℕ). sets l 56 (bytes 8 0)) (c4 .put-centre .ensures
     ∙ ap (λ (l : List ℕ). sets l 32 (pointBytes (a .centre))) (c3 .put-bytes2 .ensures
     ∙ ap (λ (l : List ℕ). sets l 24 (bytes 8 0)) (c2 .put-words .ensures
-    ∙ ap (λ (l : List ℕ). sets l 4 (wordBytes f)) (c1 .put-bytes .ensures))))
+    ∙ ap (λ (l : List ℕ). sets l 4 (fieldBytes f)) (c1 .put-bytes .ensures))))
     ∙ ap (λ (k : List ℕ). rest (sets s 0 k)) (one-of-four (f .kind) (omega (arith, c1 .before .struct-known .given .0)))
     ∙ sets-all s (recordBytes f (a .centre)) (sym (b .pre))
 

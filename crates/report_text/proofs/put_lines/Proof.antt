@@ -5,7 +5,7 @@ use lib.ListN.{length}
 use mathlib.Core.Path.{_≡_, refl, subst}
 use native.Mathlib.Omega.{arith}
 use Rattle.laws.specs.Lists.{each}
-use Rattle.records.specs.Read.{told}
+use Rattle.records.specs.Keeping.{told}
 use Rattle.report.specs.Text.{lineOf}
 use Rattle.report_text.specs.Stored.{Stored, fieldsKept}
 use Rattle.report_text.proofs.Reports.{line-next}

@@ -1,62 +1,65 @@
-use borrow.Author.Needs.{needs}
+-- What the stores come to, and that they keep the list's length, is said in Putting.
 use native.Mathlib.Omega.{arith}
-use lib.ListN.{length-set}
-use Rattle.rings.proofs.Putting.{put-three}
+use borrow.Author.Needs.{needs}
+use Rattle.rings.proofs.Putting.{put-three, one-kept, two-kept, three-kept}
 use Rattle.rings.proofs.put_three.Statement.{statement}
 use Rattle.rings.proofs.put_three.Tie as tie
-use Rattle.rings.proofs.put_three.Reads as reads
-use Rattle.rings.proofs.put_three.Lts as lts
-use Rattle.rings.proofs.word_at.Reads as word-at-reads
 
 array-read-word-at : tie.Need-array-read-word-at
 array-read-word-at c = search needs
 
 word-at-requires : tie.Need-word-at-requires
-word-at-requires c κs = search needs
+word-at-requires c κs = c .before .before .pre .0
 
 mul-out : tie.Need-mul-out
-mul-out c = search needs
+mul-out c = let s = c .before .before .before in omega (arith, s .pre .3, s .good .1 .1 .0 .1)
 
 slice-write-out : tie.Need-slice-write-out
-slice-write-out c = search needs
+slice-write-out c = omega (arith, c .before .before .before .pre .3)
 
 array-read-word-at-2 : tie.Need-array-read-word-at-2
 array-read-word-at-2 c = search needs
 
 word-at-requires-2 : tie.Need-word-at-requires-2
-word-at-requires-2 c κs = search needs
+word-at-requires-2 c κs = c .before .before .before .pre .1
 
 add-out : tie.Need-add-out
-add-out c = search needs
+add-out c = let s = c .before .before .before .before in omega (arith, s .pre .3, s .good .1 .1 .0 .0)
 
 mul-out-2 : tie.Need-mul-out-2
-mul-out-2 c = search needs
+mul-out-2 c = let s = c .before .before .before .before in omega (arith, s .pre .3, s .good .1 .1 .0 .1)
 
 slice-write-out-2 : tie.Need-slice-write-out-2
-slice-write-out-2 c = simp length-set (omega arith)
+slice-write-out-2 c =
+    let s = c .before .before .before .before in
+    omega (arith, s .pre .3, one-kept (s .args .out .now) (s .args .at) (c .before .word-at .result))
 
 array-read-word-at-3 : tie.Need-array-read-word-at-3
 array-read-word-at-3 c = search needs
 
 word-at-requires-3 : tie.Need-word-at-requires-3
-word-at-requires-3 c κs = search needs
+word-at-requires-3 c κs = c .before .before .before .before .pre .2
 
 add-out-2 : tie.Need-add-out-2
-add-out-2 c = search needs
+add-out-2 c = let s = c .before .before .before .before .before in omega (arith, s .pre .3, s .good .1 .1 .0 .0)
 
 mul-out-3 : tie.Need-mul-out-3
-mul-out-3 c = search needs
+mul-out-3 c = let s = c .before .before .before .before .before in omega (arith, s .pre .3, s .good .1 .1 .0 .1)
 
 slice-write-out-3 : tie.Need-slice-write-out-3
-slice-write-out-3 c = simp length-set (omega arith)
+slice-write-out-3 c =
+    let s = c .before .before .before .before .before in
+    omega (arith, s .pre .3, two-kept (s .args .out .now) (s .args .at) (c .before .before .word-at .result) (c .before .word-at2 .result))
 
 same-length : tie.Need-same-length
-same-length c = search needs
+same-length c =
+    let s = c .before .before .before .before .before in
+    three-kept (s .args .out .now) (s .args .at) (c .before .before .word-at .result) (c .before .word-at2 .result) (c .word-at3 .result)
 
 returns : tie.Need-returns
 returns c =
-    let a = c .before .before .before .before .before .args in
-    rw (c .before .before .word-at .ensures, c .before .word-at2 .ensures, c .word-at3 .ensures) (put-three (a .out .now) (a .at) _ _ _)
+    let s = c .before .before .before .before .before in
+    put-three (s .args .out .now) (s .args .at) (c .before .before .word-at .ensures) (c .before .word-at2 .ensures) (c .word-at3 .ensures)
 
 pub put-three-spec : {M : Type 1} → statement M
 put-three-spec =

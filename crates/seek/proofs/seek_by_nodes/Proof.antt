@@ -28,7 +28,9 @@ same-length : tie.Need-same-length
 same-length c = search needs
 
 returns : tie.Need-returns
-returns c = let a = c .before .before .before .before .args in none-sought (a .at) (a .lo) (a .work .now) (c .before .before .before .before .pre .0) (sym (c .before .bow-at .ensures) ∙ c .if1 .taken)
+returns c =
+    let b = c .before .before .before .before in
+    record { way = refl; sought = none-sought (b .args .at) (b .args .lo) (b .args .work .now) (b .pre .0) (sym (c .before .bow-at .ensures) ∙ c .if1 .taken) }
 
 slice-reshare-prefix-open-runs : tie.Need-slice-reshare-prefix-open-runs
 slice-reshare-prefix-open-runs c = search needs
@@ -85,7 +87,7 @@ same-length-2 : tie.Need-same-length-2
 same-length-2 c = search needs
 
 returns-2 : tie.Need-returns-2
-returns-2 c = search needs
+returns-2 c = record { way = refl; sought = c .before .before .merge-runs .ensures }
 
 pub seek-by-nodes-spec : {M : Type 1} → statement M
 seek-by-nodes-spec =

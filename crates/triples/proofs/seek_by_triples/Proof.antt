@@ -1,6 +1,6 @@
 -- `triples::seek_by_triples` meets its contract, case by case of the number of lo's nodes.
 use Prim.Native.Nat.{_+_}
-use mathlib.Core.Path.{_≡_, sym, _∙_}
+use mathlib.Core.Path.{_≡_, refl, sym, _∙_}
 use native.Mathlib.Omega.{arith}
 use borrow.Author.Needs.{needs}
 use lib.ListN.{length}
@@ -30,7 +30,7 @@ same-length c = search needs
 returns : tie.Need-returns
 returns c =
     let b = c .before .before .before .before in
-    none-sought (b .args .at) (b .args .lo) (b .args .work .now) (b .pre .0) (sym (c .before .bow-at .ensures) ∙ c .if1 .taken)
+    record { way = refl; sought = none-sought (b .args .at) (b .args .lo) (b .args .work .now) (b .pre .0) (sym (c .before .bow-at .ensures) ∙ c .if1 .taken) }
 
 slice-reshare-prefix-set-start : tie.Need-slice-reshare-prefix-set-start
 slice-reshare-prefix-set-start c = omega (arith, c .before .before .before .before .pre .0 .room)
@@ -56,7 +56,7 @@ same-length-2 c = search needs
 returns-2 : tie.Need-returns-2
 returns-2 c =
     let b = c .before .before .before .before .before .before .before .before .before in
-    few-sought (b .args .at) (b .args .lo) (b .args .work .now) (b .pre .0) (omega (arith, c .if2 .taken, c .before .set-size .ensures))
+    record { way = refl; sought = few-sought (b .args .at) (b .args .lo) (b .args .work .now) (b .pre .0) (omega (arith, c .if2 .taken, c .before .set-size .ensures)) }
 
 add-seek-short : tie.Need-add-seek-short
 add-seek-short c =
@@ -84,7 +84,7 @@ same-length-3 : tie.Need-same-length-3
 same-length-3 c = search needs
 
 returns-3 : tie.Need-returns-3
-returns-3 c = c .before .before .seek-short .ensures
+returns-3 c = record { way = refl; sought = c .before .before .seek-short .ensures }
 
 add-walk-rare : tie.Need-add-walk-rare
 add-walk-rare c =
@@ -128,7 +128,7 @@ returns-4 c =
     let r = b .pre .0 in
     let at = nodes-at (a .at) (base (a .at) w) (a .lo) (x .result) (n .result) (x .ensures) (n .ensures) in
     let f = c .before .before .walk-rare in
-    rare-sought (a .at) (a .lo) (x .result) (x .result + n .result) w r (f .result) (f .last .0) at (f .ensures)
+    record { way = refl; sought = rare-sought (a .at) (a .lo) (x .result) (x .result + n .result) w r (f .result) (f .last .0) at (f .ensures) }
 
 pub seek-by-triples-spec : {M : Type 1} → statement M
 seek-by-triples-spec =

@@ -23,7 +23,7 @@ same-length c = search needs
 returns : tie.Need-returns
 returns c =
     let a = c .before .before .before .before .before .before .before .before .before .before .before .before .args in
-    let m = modelOf (a .coords .now) (a .kinds .now) (a .ends .now) (a .words .now) (a .tol) (a .flags) 0 in
+    let m = modelOf (a .coords .now) (a .kinds .now) (a .ends .now) (a .words .now) (a .tolerance) (a .flags) 0 in
     let k = c .before .before .before .before .before .face-owners in
     owners-refused m (a .face) (a .owners .now) (a .count .now) (k .ensures .0) (k .ensures .1) _ (c .before .a .given .1)
 
@@ -33,7 +33,7 @@ same-length-2 c = search needs
 returns-2 : tie.Need-returns-2
 returns-2 c =
     let a = c .before .before .before .before .before .before .before .before .before .before .before .before .args in
-    let m = modelOf (a .coords .now) (a .kinds .now) (a .ends .now) (a .words .now) (a .tol) (a .flags) 0 in
+    let m = modelOf (a .coords .now) (a .kinds .now) (a .ends .now) (a .words .now) (a .tolerance) (a .flags) 0 in
     let k = c .before .before .before .before .before .face-owners in
     owners-done m (a .face) (a .owners .now) (a .count .now) (k .ensures .0) (k .ensures .1) _ (c .before .a2 .given .1)
 

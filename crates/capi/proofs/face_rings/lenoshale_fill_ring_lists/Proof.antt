@@ -29,7 +29,7 @@ same-length-3 c = search needs
 returns : tie.Need-returns
 returns c =
     let a = c .before .before .before .before .before .before .before .before .before .before .before .before .before .before .before .before .before .before .before .before .args in
-    let m = modelOf (a .coords .now) (a .kinds .now) (a .ends .now) (a .words .now) (a .tol) (a .flags) 0 in
+    let m = modelOf (a .coords .now) (a .kinds .now) (a .ends .now) (a .words .now) (a .tolerance) (a .flags) 0 in
     fill-refused m (a .raw .now) (a .welded .now) (a .work .now) (a .count .now) (c .before .before .before .before .before .before .before .before .before .fill-ring-lists .ensures) _ (c .before .a .given .1)
 
 same-length-4 : tie.Need-same-length-4
@@ -44,7 +44,7 @@ same-length-6 c = search needs
 returns-2 : tie.Need-returns-2
 returns-2 c =
     let a = c .before .before .before .before .before .before .before .before .before .before .before .before .before .before .before .before .before .before .before .before .args in
-    let m = modelOf (a .coords .now) (a .kinds .now) (a .ends .now) (a .words .now) (a .tol) (a .flags) 0 in
+    let m = modelOf (a .coords .now) (a .kinds .now) (a .ends .now) (a .words .now) (a .tolerance) (a .flags) 0 in
     fill-done m (a .raw .now) (a .welded .now) (a .work .now) (a .count .now) (c .before .before .before .before .before .before .before .before .before .fill-ring-lists .ensures) _ (c .before .a2 .given .1)
 
 pub lenoshale-fill-ring-lists-spec : {M : Type 1} → statement M

@@ -17,20 +17,20 @@ cast-result c = search needs
 returns : tie.Need-returns
 returns c =
     let a = c .before .before .before .before .before .before .before .before .args in
-    let m = modelOf (a .coords .now) (a .kinds .now) (a .ends .now) (a .words .now) (a .tol) (a .flags) 0 in
+    let m = modelOf (a .coords .now) (a .kinds .now) (a .ends .now) (a .words .now) (a .tolerance) (a .flags) 0 in
     lookup-refused m (a .raw .now) (a .welded .now) (a .face) (a .start .now) (a .size .now) _ (c .before .ring-refusal .ensures) (c .if1 .taken)
 
 find-ring-requires : tie.Need-find-ring-requires
 find-ring-requires c κs =
     let a = c .before .before .before .before .before .before .before .before .args in
-    let m = modelOf (a .coords .now) (a .kinds .now) (a .ends .now) (a .words .now) (a .tol) (a .flags) 0 in
+    let m = modelOf (a .coords .now) (a .kinds .now) (a .ends .now) (a .words .now) (a .tolerance) (a .flags) 0 in
     let l = looked m (a .raw .now) (a .welded .now) (a .face) (sym (c .before .ring-refusal .ensures) ∙ c .if1 .left) in
     (sound-of m (l .model), l .face)
 
 returns-2 : tie.Need-returns-2
 returns-2 c =
     let a = c .before .before .before .before .before .before .before .before .before .args in
-    let m = modelOf (a .coords .now) (a .kinds .now) (a .ends .now) (a .words .now) (a .tol) (a .flags) 0 in
+    let m = modelOf (a .coords .now) (a .kinds .now) (a .ends .now) (a .words .now) (a .tolerance) (a .flags) 0 in
     let z = sym (c .before .before .ring-refusal .ensures) ∙ c .before .if1 .left in
     lookup-done m (a .raw .now) (a .welded .now) (a .face) (a .start .now) (a .size .now) (c .find-ring .result) z (c .find-ring .ensures .0)
 

@@ -2,7 +2,7 @@
 use borrow.Author.Needs.{needs}
 use Rattle.capi.proofs.model_files.lenoshale_read.Statement.{statement}
 use Rattle.capi.proofs.model_files.lenoshale_read.Tie as tie
-use Rattle.capi.specs.Files.{foundOf}
+use Rattle.model_file.specs.Reading.{foundOf}
 use Rattle.capi.proofs.FileExports.{read-refused, read-done}
 
 read-requires : tie.Need-read-requires

@@ -23,7 +23,7 @@ same-length c = search needs
 returns : tie.Need-returns
 returns c =
     let a = c .before .before .before .before .before .before .before .before .before .before .before .before .args in
-    let m = modelOf (a .coords .now) (a .kinds .now) (a .ends .now) (a .words .now) (a .tol) (a .flags) (a .cap) in
+    let m = modelOf (a .coords .now) (a .kinds .now) (a .ends .now) (a .words .now) (a .tolerance) (a .flags) (a .cap) in
     write-refused m (a .out .now) (a .size .now) (c .before .before .before .before .before .write .ensures) _ (c .before .a .given .1)
 
 same-length-2 : tie.Need-same-length-2
@@ -32,7 +32,7 @@ same-length-2 c = search needs
 returns-2 : tie.Need-returns-2
 returns-2 c =
     let a = c .before .before .before .before .before .before .before .before .before .before .before .before .args in
-    let m = modelOf (a .coords .now) (a .kinds .now) (a .ends .now) (a .words .now) (a .tol) (a .flags) (a .cap) in
+    let m = modelOf (a .coords .now) (a .kinds .now) (a .ends .now) (a .words .now) (a .tolerance) (a .flags) (a .cap) in
     write-done m (a .out .now) (a .size .now) (c .before .before .before .before .before .write .ensures) _ (c .before .a2 .given .1)
 
 pub lenoshale-write-spec : {M : Type 1} → statement M

@@ -22,12 +22,12 @@ area-number-requires c κs = search needs
 returns : tie.Need-returns
 returns c =
     let a = c .before .before .before .before .before .before .args in
-    area-refused (a .coords .now) (a .nodes .now) (a .tol) (a .says .now) (c .before .before .before .area-test .ensures) _ (c .before .a .given .1)
+    area-refused (a .coords .now) (a .nodes .now) (a .tolerance) (a .says .now) (c .before .before .before .area-test .ensures) _ (c .before .a .given .1)
 
 returns-2 : tie.Need-returns-2
 returns-2 c =
     let a = c .before .before .before .before .before .before .before .args in
-    area-done (a .coords .now) (a .nodes .now) (a .tol) (a .says .now) (c .before .before .before .before .area-test .ensures) _ _ (c .before .before .a2 .given .1) (c .area-number .ensures)
+    area-done (a .coords .now) (a .nodes .now) (a .tolerance) (a .says .now) (c .before .before .before .before .area-test .ensures) _ _ (c .before .before .a2 .given .1) (c .area-number .ensures)
 
 pub lenoshale-area-test-spec : {M : Type 1} → statement M
 lenoshale-area-test-spec =

@@ -25,7 +25,7 @@ same-length-2 c = search needs
 returns : tie.Need-returns
 returns c =
     let a = c .before .before .before .before .before .before .before .before .before .before .before .before .before .args in
-    weld-refused (a .coords .now) (a .tol) (a .map .now) (a .scratch .now) (c .before .before .before .before .before .before .before .weld .ensures) _ (c .before .a .given .1)
+    weld-refused (a .coords .now) (a .tolerance) (a .map .now) (a .scratch .now) (c .before .before .before .before .before .before .before .weld .ensures) _ (c .before .a .given .1)
 
 same-length-3 : tie.Need-same-length-3
 same-length-3 c = search needs
@@ -36,7 +36,7 @@ same-length-4 c = search needs
 returns-2 : tie.Need-returns-2
 returns-2 c =
     let a = c .before .before .before .before .before .before .before .before .before .before .before .before .args in
-    weld-done (a .coords .now) (a .tol) (a .map .now) (a .scratch .now) (c .before .before .before .before .before .before .weld .ensures) (c .enum-told .given .1)
+    weld-done (a .coords .now) (a .tolerance) (a .map .now) (a .scratch .now) (c .before .before .before .before .before .before .weld .ensures) (c .enum-told .given .1)
 
 pub lenoshale-weld-spec : {M : Type 1} → statement M
 lenoshale-weld-spec =

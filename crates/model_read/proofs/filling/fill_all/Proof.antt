@@ -3,7 +3,6 @@ use mathlib.Core.List.{List}
 use mathlib.Core.Path.{subst, sym}
 use native.Mathlib.Omega.{arith}
 use lib.ListN.{length}
-use borrow.Author.Needs.{needs}
 use Rattle.model_read.specs.Steps.{Room, Put}
 use Rattle.model_read.proofs.FillPass.{Filling, nodes-room, filling-start, filling-room, filling-step, filling-end}
 use Rattle.model_read.proofs.JudgePass.{part32}
@@ -36,16 +35,16 @@ loop-holds c =
     filling-start (a .bytes .now) (a .nodes) (a .coords .now) (e .last .1 .0) (a .kinds .now) (a .ends .now) (a .words .now) (b .pre .0) (b .pre .1) (e .ensures)
 
 add-e : tie.Need-add-e Inv-loop μ-loop
-add-e c = search needs
+add-e c = omega arith
 
 sub-fill-record : tie.Need-sub-fill-record Inv-loop μ-loop
-sub-fill-record c = search needs
+sub-fill-record c = omega arith
 
 part-fill-record-start : tie.Need-part-fill-record-start Inv-loop μ-loop
-part-fill-record-start c = search needs
+part-fill-record-start c = omega arith
 
 part-fill-record-end : tie.Need-part-fill-record-end Inv-loop μ-loop
-part-fill-record-end c = search needs
+part-fill-record-end c = omega arith
 
 fill-record-requires : tie.Need-fill-record-requires Inv-loop μ-loop
 fill-record-requires c κs =
@@ -71,7 +70,7 @@ loop-again c =
     (subst (λ (r : List ℕ). Put r (o .p) (e .result) (o .kinds) (e .last .1 .0) (o .ends) (e .last .1 .1 .0) (o .words) (e .last .1 .1 .1 .0)) (part32 (a .bytes .now) (o .at)) (e .ensures))
 
 same-length : tie.Need-same-length Inv-loop μ-loop
-same-length c = search needs
+same-length c = c .before .before .before .before .fill-nodes .kept .1 .0
 
 same-length-2 : tie.Need-same-length-2 Inv-loop μ-loop
 same-length-2 c = c .before .loop .inv .kinds-long

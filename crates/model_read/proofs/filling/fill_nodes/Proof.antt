@@ -26,31 +26,31 @@ loop-holds c =
     (search needs, nodes-start (a .coords .now) (a .n) (a .bytes .now), refl)
 
 mul-at : tie.Need-mul-at Inv-loop μ-loop
-mul-at c = search needs
+mul-at c = omega arith
 
 add-e : tie.Need-add-e Inv-loop μ-loop
-add-e c = search needs
+add-e c = omega arith
 
 sub-put-node : tie.Need-sub-put-node Inv-loop μ-loop
-sub-put-node c = search needs
+sub-put-node c = omega arith
 
 part-put-node-start : tie.Need-part-put-node-start Inv-loop μ-loop
-part-put-node-start c = search needs
+part-put-node-start c = omega arith
 
 part-put-node-end : tie.Need-part-put-node-end Inv-loop μ-loop
-part-put-node-end c = search needs
+part-put-node-end c = omega arith
 
 mul-put-node : tie.Need-mul-put-node Inv-loop μ-loop
-mul-put-node c = search needs
+mul-put-node c = omega (arith, c .before .before)
 
 put-node-requires : tie.Need-put-node-requires Inv-loop μ-loop
-put-node-requires c κs = search needs
+put-node-requires c κs = omega (arith, c .before .before)
 
 add-i : tie.Need-add-i Inv-loop μ-loop
-add-i c = search needs
+add-i c = omega (arith, c .before .before .before .before .before)
 
 loop-less : tie.Need-loop-less Inv-loop μ-loop
-loop-less c = search needs
+loop-less c = omega (arith, c .before .before .before .before .before)
 
 loop-again : tie.Need-loop-again Inv-loop μ-loop
 loop-again c =
@@ -62,7 +62,7 @@ loop-again c =
     (search needs, nodes-more (at .loop .coords) (e .last .1 .0) (a .n) (at .loop .i) s (omega arith) w ∙ at .loop .inv .1, ap length w ∙ length-sets (at .loop .coords) (3 * at .loop .i) (coordsIn Node (take 32 (drop (32 * at .loop .i) s))) ∙ at .loop .inv .2)
 
 same-length : tie.Need-same-length Inv-loop μ-loop
-same-length c = search needs
+same-length c = c .before .loop .inv .2
 
 returns : tie.Need-returns Inv-loop μ-loop
 returns c =

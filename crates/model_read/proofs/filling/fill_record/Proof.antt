@@ -3,7 +3,7 @@ use mathlib.Core.Path.{subst, sym, ap, _∙_}
 use lib.Dec.{ltb}
 use lib.ListN.{length}
 use lib.Seq.{sets}
-use borrow.Author.Needs.{needs}
+use native.Mathlib.Omega.{arith}
 use Rattle.model_file.specs.declared.Letter.{Letter}
 use Rattle.model_file.specs.Records.{kindsIn, wordsIn, endsIn}
 use Rattle.model_read.specs.Steps.{after}
@@ -11,10 +11,10 @@ use Rattle.model_read.proofs.filling.fill_record.Statement.{statement}
 use Rattle.model_read.proofs.filling.fill_record.Tie as tie
 
 shared-slice-read-letter-of : tie.Need-shared-slice-read-letter-of
-shared-slice-read-letter-of c = search needs
+shared-slice-read-letter-of c = omega (arith, c .before .before .before .before .before)
 
 letter-of-requires : tie.Need-letter-of-requires
-letter-of-requires c κs = search needs
+letter-of-requires c κs = tt
 
 fill-kinds-requires : tie.Need-fill-kinds-requires
 fill-kinds-requires c κs =
@@ -24,7 +24,7 @@ fill-kinds-requires c κs =
     (b .pre .long, subst (λ (x : Letter). a .p .cells + length (kindsIn x (a .r .now)) ≤ length (a .kinds .now)) l (b .pre .kindsFit))
 
 fill-ends-requires : tie.Need-fill-ends-requires
-fill-ends-requires c κs = search needs
+fill-ends-requires c κs = omega (arith, c .before .before .before .before .before .before .before .before .before .before .before)
 
 fill-words-requires : tie.Need-fill-words-requires
 fill-words-requires c κs =
@@ -34,16 +34,16 @@ fill-words-requires c κs =
     (b .pre .long, subst (λ (x : Letter). length (wordsIn x (a .r .now)) ≤ 14) l (b .pre .little), subst (λ (x : Letter). a .p .words + length (wordsIn x (a .r .now)) ≤ length (a .words .now)) l (b .pre .wordsFit))
 
 place-after-requires : tie.Need-place-after-requires
-place-after-requires c κs = search needs
+place-after-requires c κs = omega (arith, c .before .before .before .before .before .before .before .before .before .before .before .before .before .before .before .before .before .before)
 
 same-length : tie.Need-same-length
-same-length c = search needs
+same-length c = c .before .before .before .before .before .before .before .before .before .before .before .fill-kinds .kept .1 .1 .0
 
 same-length-2 : tie.Need-same-length-2
-same-length-2 c = search needs
+same-length-2 c = c .before .before .before .before .before .before .before .fill-ends .kept .1 .0
 
 same-length-3 : tie.Need-same-length-3
-same-length-3 c = search needs
+same-length-3 c = c .before .before .before .fill-words .kept .1 .1 .0
 
 returns : tie.Need-returns
 returns c =

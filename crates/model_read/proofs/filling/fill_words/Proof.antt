@@ -3,7 +3,6 @@ use mathlib.Core.Path.{subst, sym, ap, _∙_}
 use native.Mathlib.Omega.{arith}
 use lib.ListN.{length, drop}
 use lib.Seq.{sets}
-use borrow.Author.Needs.{needs}
 use Rattle.model_file.specs.declared.Letter.{Letter}
 use Rattle.model_file.specs.Records.{wordsIn, count, wordsAt}
 use Rattle.model_file.proofs.Fields.{length-wordsAt}
@@ -11,10 +10,10 @@ use Rattle.model_read.proofs.filling.fill_words.Statement.{statement}
 use Rattle.model_read.proofs.filling.fill_words.Tie as tie
 
 enum-told : tie.Need-enum-told
-enum-told c = search needs
+enum-told c = c .match .keys1
 
 enum-told-2 : tie.Need-enum-told-2
-enum-told-2 c = search needs
+enum-told-2 c = c .match .keys2
 
 put-words-requires : tie.Need-put-words-requires
 put-words-requires c κs =
@@ -25,7 +24,7 @@ put-words-requires c κs =
     (b .pre .0, omega arith, omega arith)
 
 enum-told-3 : tie.Need-enum-told-3
-enum-told-3 c = search needs
+enum-told-3 c = c .match .keys3
 
 put-words-requires-2 : tie.Need-put-words-requires-2
 put-words-requires-2 c κs =
@@ -36,16 +35,18 @@ put-words-requires-2 c κs =
     (b .pre .0, omega arith, omega arith)
 
 enum-told-4 : tie.Need-enum-told-4
-enum-told-4 c = search needs
+enum-told-4 c = c .match .keys4
 
 enum-told-5 : tie.Need-enum-told-5
-enum-told-5 c = search needs
+enum-told-5 c = c .match .keys5
 
 returns : tie.Need-returns
-returns c = search needs
+returns c =
+    let a = c .before .before .before .before .args in
+    sym (ap (λ (l : Letter). sets (a .words .now) (a .at) (wordsIn l (a .r .now))) (c .enum-told .given .1))
 
 same-length : tie.Need-same-length
-same-length c = search needs
+same-length c = c .before .before .put-words .kept .1 .0
 
 returns-2 : tie.Need-returns-2
 returns-2 c =
@@ -54,7 +55,7 @@ returns-2 c =
     c .before .before .put-words .ensures ∙ sym (ap (λ (l : Letter). sets (a .words .now) (a .at) (wordsIn l (a .r .now))) (b .enum-told2 .given .1))
 
 same-length-2 : tie.Need-same-length-2
-same-length-2 c = search needs
+same-length-2 c = c .before .before .put-words2 .kept .1 .0
 
 returns-3 : tie.Need-returns-3
 returns-3 c =
@@ -63,10 +64,14 @@ returns-3 c =
     c .before .before .put-words2 .ensures ∙ sym (ap (λ (l : Letter). sets (a .words .now) (a .at) (wordsIn l (a .r .now))) (b .enum-told3 .given .1))
 
 returns-4 : tie.Need-returns-4
-returns-4 c = search needs
+returns-4 c =
+    let a = c .before .before .before .before .args in
+    sym (ap (λ (l : Letter). sets (a .words .now) (a .at) (wordsIn l (a .r .now))) (c .enum-told4 .given .1))
 
 returns-5 : tie.Need-returns-5
-returns-5 c = search needs
+returns-5 c =
+    let a = c .before .before .before .before .args in
+    sym (ap (λ (l : Letter). sets (a .words .now) (a .at) (wordsIn l (a .r .now))) (c .enum-told5 .given .1))
 
 pub fill-words-spec : {M : Type 1} → statement M
 fill-words-spec =

@@ -13,13 +13,13 @@ returns : tie.Need-returns
 returns c = search needs
 
 put-four-requires : tie.Need-put-four-requires
-put-four-requires c κs = search needs
+put-four-requires c κs = omega (arith, c .before .before .before .before)
 
 put-four-requires-2 : tie.Need-put-four-requires-2
-put-four-requires-2 c κs = search needs
+put-four-requires-2 c κs = omega (arith, c .before .before .before .before .before .before .before .before)
 
 same-length : tie.Need-same-length
-same-length c = search needs
+same-length c = c .before .before .put-four2 .kept .1 .0 ∙ c .before .before .before .before .before .before .put-four .kept .1 .0
 
 returns-2 : tie.Need-returns-2
 returns-2 c =

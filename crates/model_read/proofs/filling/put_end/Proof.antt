@@ -3,6 +3,7 @@ use mathlib.Core.Bool.{Bool}
 use mathlib.Core.Path.{sym, ap}
 use lib.Seq.{sets}
 use borrow.Author.Tests.{lt-ltb, le-ltb}
+use native.Mathlib.Omega.{arith}
 use borrow.Author.Needs.{needs}
 use Rattle.model_file.specs.declared.Letter.the-variants.{Cell}
 use Rattle.model_file.specs.Records.{endsIn}
@@ -10,16 +11,16 @@ use Rattle.model_read.proofs.filling.put_end.Statement.{statement}
 use Rattle.model_read.proofs.filling.put_end.Tie as tie
 
 cast-ends : tie.Need-cast-ends
-cast-ends c = search needs
+cast-ends c = omega (arith, c .before)
 
 sub-ends : tie.Need-sub-ends
-sub-ends c = search needs
+sub-ends c = omega (arith, c .before)
 
 mul-ends : tie.Need-mul-ends
-mul-ends c = search needs
+mul-ends c = omega (arith, c .before)
 
 slice-write-ends : tie.Need-slice-write-ends
-slice-write-ends c = search needs
+slice-write-ends c = omega (arith, c .before)
 
 same-length : tie.Need-same-length
 same-length c = search needs

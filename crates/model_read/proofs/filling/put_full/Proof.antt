@@ -3,26 +3,25 @@ use mathlib.Core.List.{List}
 use mathlib.Core.Path.{ap, _∙_}
 use native.Mathlib.Omega.{arith}
 use lib.Seq.{sets}
-use borrow.Author.Needs.{needs}
 use Rattle.model_read.specs.Steps.{wordsBetween}
 use Rattle.model_read.proofs.WordStores.{words-on, words-all}
 use Rattle.model_read.proofs.filling.put_full.Statement.{statement}
 use Rattle.model_read.proofs.filling.put_full.Tie as tie
 
 put-four-requires : tie.Need-put-four-requires
-put-four-requires c κs = search needs
+put-four-requires c κs = omega (arith, c .before .before .before)
 
 put-four-requires-2 : tie.Need-put-four-requires-2
-put-four-requires-2 c κs = search needs
+put-four-requires-2 c κs = omega (arith, c .before .before .before .before .before .before .before)
 
 put-four-requires-3 : tie.Need-put-four-requires-3
-put-four-requires-3 c κs = search needs
+put-four-requires-3 c κs = omega (arith, c .before .before .before .before .before .before .before .before .before .before .before)
 
 put-two-requires : tie.Need-put-two-requires
-put-two-requires c κs = search needs
+put-two-requires c κs = omega (arith, c .before .before .before .before .before .before .before .before .before .before .before .before .before .before .before)
 
 same-length : tie.Need-same-length
-same-length c = search needs
+same-length c = c .before .before .put-two .kept .1 .0 ∙ c .before .before .before .before .before .before .put-four3 .kept .1 .0 ∙ c .before .before .before .before .before .before .before .before .before .before .put-four2 .kept .1 .0 ∙ c .before .before .before .before .before .before .before .before .before .before .before .before .before .before .put-four .kept .1 .0
 
 returns : tie.Need-returns
 returns c =

@@ -10,22 +10,22 @@ use Rattle.model_read.proofs.filling.put_last.Statement.{statement}
 use Rattle.model_read.proofs.filling.put_last.Tie as tie
 
 mul-word-at : tie.Need-mul-word-at
-mul-word-at c = search needs
+mul-word-at c = omega (arith, c .before .before .before)
 
 add-word-at : tie.Need-add-word-at
-add-word-at c = search needs
+add-word-at c = omega (arith, c .before .before .before)
 
 word-at-requires : tie.Need-word-at-requires
-word-at-requires c κs = search needs
+word-at-requires c κs = omega (arith, c .before .before .before)
 
 add-words : tie.Need-add-words
-add-words c = search needs
+add-words c = omega (arith, c .before .before .before .before)
 
 mul-words : tie.Need-mul-words
-mul-words c = search needs
+mul-words c = omega (arith, c .before .before .before .before)
 
 slice-write-words : tie.Need-slice-write-words
-slice-write-words c = search needs
+slice-write-words c = omega (arith, c .before .before .before .before)
 
 same-length : tie.Need-same-length
 same-length c = search needs

@@ -3,47 +3,46 @@ use mathlib.Core.Path.{_≡_, ap, _∙_}
 use native.Mathlib.Omega.{arith}
 use lib.ListN.{length-set, set, drop}
 use lib.Seq.{sets}
-use borrow.Author.Needs.{needs}
 use Rattle.model_file.specs.Records.{wordsAt}
 use Rattle.model_read.proofs.WordStores.{word-more}
 use Rattle.model_read.proofs.filling.put_two.Statement.{statement}
 use Rattle.model_read.proofs.filling.put_two.Tie as tie
 
 mul-from : tie.Need-mul-from
-mul-from c = search needs
+mul-from c = omega (arith, c .before .before)
 
 add-from : tie.Need-add-from
-add-from c = search needs
+add-from c = omega (arith, c .before .before)
 
 word-at-requires : tie.Need-word-at-requires
-word-at-requires c κs = search needs
+word-at-requires c κs = omega (arith, c .before .before)
 
 add-word-at : tie.Need-add-word-at
-add-word-at c = search needs
+add-word-at c = omega (arith, c .before .before .before)
 
 word-at-requires-2 : tie.Need-word-at-requires-2
-word-at-requires-2 c κs = search needs
+word-at-requires-2 c κs = omega (arith, c .before .before .before)
 
 add-k : tie.Need-add-k
-add-k c = search needs
+add-k c = omega (arith, c .before .before .before .before)
 
 mul-words : tie.Need-mul-words
-mul-words c = search needs
+mul-words c = omega (arith, c .before .before .before .before)
 
 slice-write-words : tie.Need-slice-write-words
-slice-write-words c = search needs
+slice-write-words c = omega (arith, c .before .before .before .before)
 
 add-words : tie.Need-add-words
-add-words c = search needs
+add-words c = omega (arith, c .before .before .before .before)
 
 mul-words-2 : tie.Need-mul-words-2
-mul-words-2 c = search needs
+mul-words-2 c = omega (arith, c .before .before .before .before)
 
 slice-write-words-2 : tie.Need-slice-write-words-2
-slice-write-words-2 c = simp length-set (omega arith)
+slice-write-words-2 c = simp length-set (omega (arith, c .before .before .before .before))
 
 same-length : tie.Need-same-length
-same-length c = search needs
+same-length c = simp length-set
 
 returns : tie.Need-returns
 returns c =

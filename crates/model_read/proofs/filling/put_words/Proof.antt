@@ -4,7 +4,6 @@ use mathlib.Core.Path.{sym, ap, _∙_}
 use native.Mathlib.Omega.{arith}
 use lib.ListN.{drop}
 use lib.Seq.{sets}
-use borrow.Author.Needs.{needs}
 use Rattle.model_file.specs.Records.{wordsAt}
 use Rattle.model_read.specs.Steps.{wordsBetween}
 use Rattle.model_read.proofs.WordStores.{words-on, words-all}
@@ -12,16 +11,16 @@ use Rattle.model_read.proofs.filling.put_words.Statement.{statement}
 use Rattle.model_read.proofs.filling.put_words.Tie as tie
 
 shared-slice-read-size : tie.Need-shared-slice-read-size
-shared-slice-read-size c = search needs
+shared-slice-read-size c = omega (arith, c .before .before .before)
 
 size-requires : tie.Need-size-requires
-size-requires c κs = search needs
+size-requires c κs = tt
 
 put-full-requires : tie.Need-put-full-requires
-put-full-requires c κs = search needs
+put-full-requires c κs = omega (arith, c .before .before .before .before .before .before)
 
 same-length : tie.Need-same-length
-same-length c = search needs
+same-length c = c .before .before .put-full .kept .1 .0
 
 returns : tie.Need-returns
 returns c =
@@ -29,19 +28,19 @@ returns c =
     c .before .before .put-full .ensures ∙ ap (λ (n : ℕ). sets (a .words .now) (a .at) (wordsAt n (drop 4 (a .r .now)))) (sym (c .before .before .before .before .if1 .taken) ∙ c .before .before .before .before .before .size .ensures .0)
 
 put-eight-requires : tie.Need-put-eight-requires
-put-eight-requires c κs = search needs
+put-eight-requires c κs = omega (arith, c .before .before .before .before .before .before)
 
 put-next-four-requires : tie.Need-put-next-four-requires
-put-next-four-requires c κs = search needs
+put-next-four-requires c κs = omega (arith, c .before .before .before .before .before .before .before .before .before .before .pre, c .before .before .before .before .before .before .size .ensures, c .before .before .before .put-eight .ensures, c .before .before .before .put-eight .kept)
 
 put-next-two-requires : tie.Need-put-next-two-requires
-put-next-two-requires c κs = search needs
+put-next-two-requires c κs = omega (arith, c .before .before .before .before .before .before .before .before .before .before .before .before .before .before .pre, c .before .before .before .before .before .before .before .before .before .before .size .ensures, c .before .before .before .before .before .before .before .put-eight .kept, c .before .before .before .put-next-four .ensures, c .before .before .before .put-next-four .kept)
 
 put-last-requires : tie.Need-put-last-requires
-put-last-requires c κs = search needs
+put-last-requires c κs = omega (arith, c .before .before .before .before .before .before .before .before .before .before .before .before .before .before .before .before .before .before .pre, c .before .before .before .before .before .before .before .before .before .before .before .before .before .before .size .ensures, c .before .before .before .before .before .before .before .before .before .before .before .put-eight .kept, c .before .before .before .before .before .before .before .put-next-four .kept, c .before .before .before .put-next-two .ensures, c .before .before .before .put-next-two .kept)
 
 same-length-2 : tie.Need-same-length-2
-same-length-2 c = search needs
+same-length-2 c = c .before .before .put-last .kept .1 .0 ∙ c .before .before .before .before .before .before .put-next-two .kept .1 .0 ∙ c .before .before .before .before .before .before .before .before .before .before .put-next-four .kept .1 .0 ∙ c .before .before .before .before .before .before .before .before .before .before .before .before .before .before .put-eight .kept .1 .0
 
 returns-2 : tie.Need-returns-2
 returns-2 c =

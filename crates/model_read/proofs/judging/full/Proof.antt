@@ -1,11 +1,11 @@
 use mathlib.Core.Path.{sym}
 use borrow.Author.Tests.{eq-eqb, ne-eqb}
-use borrow.Author.Needs.{needs}
+use native.Mathlib.Omega.{arith}
 use Rattle.model_read.proofs.judging.full.Statement.{statement}
 use Rattle.model_read.proofs.judging.full.Tie as tie
 
 shared-slice-read-if1 : tie.Need-shared-slice-read-if1
-shared-slice-read-if1 c = search needs
+shared-slice-read-if1 c = omega (arith, c .before)
 
 returns : tie.Need-returns
 returns c = sym (rw (eq-eqb _ _ (c .if1 .taken)))

@@ -4,7 +4,6 @@ use mathlib.Core.Path.{ap₂, subst₂, refl, sym, ap, _∙_}
 use native.Mathlib.Omega.{arith}
 use lib.ListN.{length, take, drop}
 use borrow.Author.Tests.{eqb-false}
-use borrow.Author.Needs.{needs}
 use Rattle.model_file.specs.declared.Letter.{Letter}
 use Rattle.model_file.specs.Records.{letter, stage}
 use Rattle.model_file.specs.Steps.{recordRefusal}
@@ -31,38 +30,38 @@ loop-holds : tie.Need-loop-holds Inv-loop μ-loop
 loop-holds c = judging-start (c .before .args .bytes .now) (c .before .args .nodes) (c .before .pre .0) (c .before .pre .2)
 
 add-e : tie.Need-add-e Inv-loop μ-loop
-add-e c = search needs
+add-e c = omega arith
 
 sub-r : tie.Need-sub-r Inv-loop μ-loop
-sub-r c = search needs
+sub-r c = omega arith
 
 part-r-start : tie.Need-part-r-start Inv-loop μ-loop
-part-r-start c = search needs
+part-r-start c = omega arith
 
 part-r-end : tie.Need-part-r-end Inv-loop μ-loop
-part-r-end c = search needs
+part-r-end c = omega arith
 
 shared-slice-read-letter-of : tie.Need-shared-slice-read-letter-of Inv-loop μ-loop
-shared-slice-read-letter-of c = search needs
+shared-slice-read-letter-of c = omega (arith, c .before .before)
 
 letter-of-requires : tie.Need-letter-of-requires Inv-loop μ-loop
-letter-of-requires c κs = search needs
+letter-of-requires c κs = tt
 
 refusal-of-requires : tie.Need-refusal-of-requires Inv-loop μ-loop
 refusal-of-requires c κs =
     let at = c .before .before .before .before in
     let a = at .before .before .args in
-    let lt : at .loop .at < length (a .bytes .now) = omega arith in
+    let lt : at .loop .at < length (a .bytes .now) = c .before .before .before .loop-test .taken in
     (part-length (a .bytes .now) (at .loop .at) (fits (a .bytes .now) (at .loop .stage) (at .loop .p) (at .loop .at) (at .loop .inv) (lt)), c .letter-of .ensures)
 
 tally-of-requires : tie.Need-tally-of-requires Inv-loop μ-loop
-tally-of-requires c κs = search needs
+tally-of-requires c κs = tt
 
 returns : tie.Need-returns Inv-loop μ-loop
 returns c =
     let at = c .before .before .before .before .before .before .before in
     let a = at .before .before .args in
-    let lt : at .loop .at < length (a .bytes .now) = omega arith in
+    let lt : at .loop .at < length (a .bytes .now) = c .before .before .before .before .before .before .loop-test .taken in
     let n = c .before .before .refusal-of .ensures ∙ ap (recordRefusal (at .loop .stage)) (part32 (a .bytes .now) (at .loop .at)) in
     let q = c .tally-of .ensures in
     record {
@@ -76,24 +75,24 @@ place-after-requires : tie.Need-place-after-requires Inv-loop μ-loop
 place-after-requires c κs =
     let at = c .before .before .before .before .before .before in
     let a = at .before .before .args in
-    let lt : at .loop .at < length (a .bytes .now) = omega arith in
-    (part-length (a .bytes .now) (at .loop .at) (fits (a .bytes .now) (at .loop .stage) (at .loop .p) (at .loop .at) (at .loop .inv) (lt)), omega arith, omega arith, omega arith)
+    let lt : at .loop .at < length (a .bytes .now) = c .before .before .before .before .before .loop-test .taken in
+    (part-length (a .bytes .now) (at .loop .at) (fits (a .bytes .now) (at .loop .stage) (at .loop .p) (at .loop .at) (at .loop .inv) (lt)), omega (arith, at .loop .inv .few-coords, at .before .before .pre .1, lt), omega (arith, at .loop .inv .few-cells, at .before .before .pre .1, lt), omega (arith, at .loop .inv .few-words, at .before .before .pre .1, lt))
 
 stage-after-requires : tie.Need-stage-after-requires Inv-loop μ-loop
 stage-after-requires c κs =
     let at = c .before .before .before .before .before .before .before in
     let a = at .before .before .args in
-    let lt : at .loop .at < length (a .bytes .now) = omega arith in
+    let lt : at .loop .at < length (a .bytes .now) = c .before .before .before .before .before .before .loop-test .taken in
     part-length (a .bytes .now) (at .loop .at) (fits (a .bytes .now) (at .loop .stage) (at .loop .p) (at .loop .at) (at .loop .inv) (lt))
 
 loop-less : tie.Need-loop-less Inv-loop μ-loop
-loop-less c = search needs
+loop-less c = omega (arith, c .before .before .before .before .before .before .before .loop-test .taken)
 
 loop-again : tie.Need-loop-again Inv-loop μ-loop
 loop-again c =
     let at = c .before .before .before .before .before .before .before .before in
     let a = at .before .before .args in
-    let lt : at .loop .at < length (a .bytes .now) = omega arith in
+    let lt : at .loop .at < length (a .bytes .now) = c .before .before .before .before .before .before .before .loop-test .taken in
     let e = part32 (a .bytes .now) (at .loop .at) in
     let r = take 32 (drop (at .loop .at) (a .bytes .now)) in
     let n = sym (c .before .before .before .refusal-of .ensures ∙ ap (recordRefusal (at .loop .stage)) e) ∙ c .before .before .if1 .left in
@@ -103,13 +102,13 @@ loop-again c =
     subst₂ (λ (x : ℕ) (y : Place). Judging (a .bytes .now) x y (at .loop .at + 32)) (sym st) (sym pl) (judging-step (a .bytes .now) (at .loop .stage) (at .loop .p) (at .loop .at) (at .loop .inv) lt n)
 
 tally-of-requires-2 : tie.Need-tally-of-requires-2 Inv-loop μ-loop
-tally-of-requires-2 c κs = search needs
+tally-of-requires-2 c κs = tt
 
 returns-2 : tie.Need-returns-2 Inv-loop μ-loop
 returns-2 c =
     let at = c .before .before .before in
     let a = at .before .before .args in
-    let e : length (a .bytes .now) ≤ at .loop .at = omega arith in
+    let e : length (a .bytes .now) ≤ at .loop .at = c .before .before .loop-test .left in
     let q = c .tally-of2 .ensures in
     record {
       refusal = q .0 ∙ sym (missing-last (a .bytes .now) (at .loop .stage) (at .loop .p) (at .loop .at) (at .loop .inv) e (c .before .if2 .taken));
@@ -119,13 +118,13 @@ returns-2 c =
     }
 
 tally-of-requires-3 : tie.Need-tally-of-requires-3 Inv-loop μ-loop
-tally-of-requires-3 c κs = search needs
+tally-of-requires-3 c κs = tt
 
 returns-3 : tie.Need-returns-3 Inv-loop μ-loop
 returns-3 c =
     let at = c .before .before .before in
     let a = at .before .before .args in
-    let e : length (a .bytes .now) ≤ at .loop .at = omega arith in
+    let e : length (a .bytes .now) ≤ at .loop .at = c .before .before .loop-test .left in
     let q = c .tally-of3 .ensures in
     record {
       refusal = q .0 ∙ sym (judged-well (a .bytes .now) (at .loop .stage) (at .loop .p) (at .loop .at) (at .loop .inv) e (c .before .if2 .left));

@@ -19,10 +19,10 @@ loop-holds : tie.Need-loop-holds Inv-loop μ-loop
 loop-holds c = (search needs, omega arith)
 
 mul-le-u64 : tie.Need-mul-le-u64 Inv-loop μ-loop
-mul-le-u64 c = search needs
+mul-le-u64 c = omega arith
 
 le-u64-requires : tie.Need-le-u64-requires Inv-loop μ-loop
-le-u64-requires c κs = search needs
+le-u64-requires c κs = omega arith
 
 returns : tie.Need-returns Inv-loop μ-loop
 returns c =
@@ -32,10 +32,10 @@ returns c =
     record { counted = omega (arith, at .loop .inv .1); inside = omega arith }
 
 add-n : tie.Need-add-n Inv-loop μ-loop
-add-n c = search needs
+add-n c = omega (arith, c .before .before)
 
 loop-less : tie.Need-loop-less Inv-loop μ-loop
-loop-less c = search needs
+loop-less c = omega (arith, c .before .before)
 
 loop-again : tie.Need-loop-again Inv-loop μ-loop
 loop-again c =

@@ -1,23 +1,22 @@
 use mathlib.Core.Path.{sym, ap}
-use borrow.Author.Needs.{needs}
 use Rattle.model_file.specs.Records.{misplaced}
 use Rattle.model_read.proofs.judging.letter_off.Statement.{statement}
 use Rattle.model_read.proofs.judging.letter_off.Tie as tie
 
 enum-told : tie.Need-enum-told
-enum-told c = search needs
+enum-told c = c .match .keys1
 
 enum-told-2 : tie.Need-enum-told-2
-enum-told-2 c = search needs
+enum-told-2 c = c .match .keys2
 
 enum-told-3 : tie.Need-enum-told-3
-enum-told-3 c = search needs
+enum-told-3 c = c .match .keys3
 
 enum-told-4 : tie.Need-enum-told-4
-enum-told-4 c = search needs
+enum-told-4 c = c .match .keys4
 
 enum-told-5 : tie.Need-enum-told-5
-enum-told-5 c = search needs
+enum-told-5 c = c .match .keys5
 
 returns : tie.Need-returns
 returns c = sym (ap (misplaced (c .before .before .args .s)) (c .enum-told .given .1))

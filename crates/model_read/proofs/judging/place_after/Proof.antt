@@ -2,7 +2,7 @@ use Prim.Native.Nat.{_+_}
 use mathlib.Core.Path.{sym, ap, _∙_}
 use native.Mathlib.Nat.{add-zero}
 use lib.ListN.{drop}
-use borrow.Author.Needs.{needs}
+use native.Mathlib.Omega.{arith}
 use Rattle.model_file.specs.declared.Letter.{Letter}
 use Rattle.model_file.specs.Records.{count}
 use Rattle.model_file.proofs.Fields.{length-wordsAt}
@@ -11,43 +11,43 @@ use Rattle.model_read.proofs.judging.place_after.Statement.{statement}
 use Rattle.model_read.proofs.judging.place_after.Tie as tie
 
 enum-told : tie.Need-enum-told
-enum-told c = search needs
+enum-told c = c .match .keys1
 
 add-t5 : tie.Need-add-t5
-add-t5 c = search needs
+add-t5 c = omega (arith, c .before .before .before .before)
 
 enum-told-2 : tie.Need-enum-told-2
-enum-told-2 c = search needs
+enum-told-2 c = c .match .keys2
 
 add-t6 : tie.Need-add-t6
-add-t6 c = search needs
+add-t6 c = omega (arith, c .before .before .before .before)
 
 shared-slice-read-size : tie.Need-shared-slice-read-size
-shared-slice-read-size c = search needs
+shared-slice-read-size c = omega (arith, c .before .before .before .before .before)
 
 size-requires : tie.Need-size-requires
-size-requires c κs = search needs
+size-requires c κs = tt
 
 add-t10 : tie.Need-add-t10
-add-t10 c = search needs
+add-t10 c = omega (arith, c .before .before .before .before .before .before .before)
 
 enum-told-3 : tie.Need-enum-told-3
-enum-told-3 c = search needs
+enum-told-3 c = c .match .keys3
 
 shared-slice-read-size-2 : tie.Need-shared-slice-read-size-2
-shared-slice-read-size-2 c = search needs
+shared-slice-read-size-2 c = omega (arith, c .before .before .before .before)
 
 size-requires-2 : tie.Need-size-requires-2
-size-requires-2 c κs = search needs
+size-requires-2 c κs = tt
 
 add-t14 : tie.Need-add-t14
-add-t14 c = search needs
+add-t14 c = omega (arith, c .before .before .before .before .before .before)
 
 enum-told-4 : tie.Need-enum-told-4
-enum-told-4 c = search needs
+enum-told-4 c = c .match .keys4
 
 enum-told-5 : tie.Need-enum-told-5
-enum-told-5 c = search needs
+enum-told-5 c = c .match .keys5
 
 returns : tie.Need-returns
 returns c =

@@ -2,7 +2,6 @@ use mathlib.Core.Path.{sym, ap, ap₂, _∙_}
 use mathlib.Core.Bool.{not, _&&_}
 use native.Mathlib.Omega.{arith}
 use borrow.Author.Tests.{eq-eqb, ne-eqb, not-true, not-false}
-use borrow.Author.Needs.{needs}
 use Rattle.model_file.specs.declared.Letter.{Letter}
 use Rattle.model_file.specs.Records.{recordOff}
 use Rattle.model_read.proofs.ZeroBytes.{zeros-cover}
@@ -10,25 +9,25 @@ use Rattle.model_read.proofs.judging.record_off.Statement.{statement}
 use Rattle.model_read.proofs.judging.record_off.Tie as tie
 
 enum-told : tie.Need-enum-told
-enum-told c = search needs
+enum-told c = c .match .keys1
 
 zero-four-requires : tie.Need-zero-four-requires
-zero-four-requires c κs = search needs
+zero-four-requires c κs = omega (arith, c .before .before .before)
 
 zero-four-requires-2 : tie.Need-zero-four-requires-2
-zero-four-requires-2 c κs = search needs
+zero-four-requires-2 c κs = omega (arith, c .before .before .before .before)
 
 enum-told-2 : tie.Need-enum-told-2
-enum-told-2 c = search needs
+enum-told-2 c = c .match .keys2
 
 words-right-requires : tie.Need-words-right-requires
-words-right-requires c κs = search needs
+words-right-requires c κs = omega (arith, c .before .before .before)
 
 enum-told-3 : tie.Need-enum-told-3
-enum-told-3 c = search needs
+enum-told-3 c = c .match .keys3
 
 shared-slice-read-if1 : tie.Need-shared-slice-read-if1
-shared-slice-read-if1 c = search needs
+shared-slice-read-if1 c = omega (arith, c .before .before .before .before)
 
 returns : tie.Need-returns
 returns c =
@@ -36,13 +35,13 @@ returns c =
     sym (ap (λ (l : Letter). recordOff l (b .before .before .before .args .r .now)) (b .enum-told3 .given .1) ∙ rw (ne-eqb _ _ (c .if1 .taken)))
 
 words-right-requires-2 : tie.Need-words-right-requires-2
-words-right-requires-2 c κs = search needs
+words-right-requires-2 c κs = omega (arith, c .before .before .before .before .before)
 
 enum-told-4 : tie.Need-enum-told-4
-enum-told-4 c = search needs
+enum-told-4 c = c .match .keys4
 
 zero-four-requires-3 : tie.Need-zero-four-requires-3
-zero-four-requires-3 c κs = search needs
+zero-four-requires-3 c κs = omega (arith, c .before .before .before)
 
 returns-2 : tie.Need-returns-2
 returns-2 c =
@@ -50,10 +49,10 @@ returns-2 c =
     sym (ap (λ (l : Letter). recordOff l (b .before .before .before .args .r .now)) (b .enum-told4 .given .1) ∙ rw (← c .before .zero-four3 .ensures, not-true (c .before .zero-four3 .result) (c .if2 .taken)))
 
 zero-sixteen-requires : tie.Need-zero-sixteen-requires
-zero-sixteen-requires c κs = search needs
+zero-sixteen-requires c κs = omega (arith, c .before .before .before .before .before)
 
 enum-told-5 : tie.Need-enum-told-5
-enum-told-5 c = search needs
+enum-told-5 c = c .match .keys5
 
 returns-3 : tie.Need-returns-3
 returns-3 c =

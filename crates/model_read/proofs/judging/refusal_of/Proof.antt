@@ -7,13 +7,13 @@ use Rattle.model_read.proofs.judging.refusal_of.Statement.{statement}
 use Rattle.model_read.proofs.judging.refusal_of.Tie as tie
 
 letter-off-requires : tie.Need-letter-off-requires
-letter-off-requires c κs = search needs
+letter-off-requires c κs = tt
 
 record-off-requires : tie.Need-record-off-requires
 record-off-requires c κs = search needs
 
 first-of-requires : tie.Need-first-of-requires
-first-of-requires c κs = search needs
+first-of-requires c κs = tt
 
 returns : tie.Need-returns
 returns c =

@@ -2,14 +2,13 @@ use Prim.Native.Nat.{_+_, _*_}
 use mathlib.Core.Path.{_≡_, sym}
 use native.Mathlib.Omega.{arith}
 use borrow.Author.Tests.{eq-eqb, ne-eqb, le-leb, lt-leb}
-use borrow.Author.Needs.{needs}
 use Rattle.model_file.specs.Records.{count}
 use Rattle.model_file.proofs.Numbers.{zeros-end}
 use Rattle.model_read.proofs.judging.words_right.Statement.{statement}
 use Rattle.model_read.proofs.judging.words_right.Tie as tie
 
 shared-slice-read-n : tie.Need-shared-slice-read-n
-shared-slice-read-n c = search needs
+shared-slice-read-n c = omega (arith, c .before .before)
 
 returns : tie.Need-returns
 returns c = sym (rw (lt-leb _ _ (c .if1 .taken)))
@@ -18,7 +17,7 @@ returns-2 : tie.Need-returns-2
 returns-2 c = sym (simp (le-leb _ _ (c .before .if1 .left), lt-leb _ _ (c .if2 .taken)))
 
 shared-slice-read-if3 : tie.Need-shared-slice-read-if3
-shared-slice-read-if3 c = search needs
+shared-slice-read-if3 c = omega (arith, c .before .before .before .before .before)
 
 returns-3 : tie.Need-returns-3
 returns-3 c = sym (simp (le-leb _ _ (c .before .before .before .if1 .left), le-leb _ _ (c .before .before .if2 .left), ne-eqb _ _ (c .if3 .taken)))
@@ -31,16 +30,16 @@ returns-4 c =
     sym (simp (le-leb _ _ (b .before .if1 .left), le-leb _ _ (b .if2 .left), eq-eqb _ _ (c .before .if3 .left), zeros-end (4 + 2 * count r) 32 r (omega arith) (omega arith)))
 
 size-requires : tie.Need-size-requires
-size-requires c κs = search needs
+size-requires c κs = tt
 
 mul-rest-zero : tie.Need-mul-rest-zero
-mul-rest-zero c = search needs
+mul-rest-zero c = omega (arith, c .before .before .before .before .before .before .before .before)
 
 add-rest-zero : tie.Need-add-rest-zero
-add-rest-zero c = search needs
+add-rest-zero c = omega (arith, c .before .before .before .before .before .before .before .before)
 
 rest-zero-requires : tie.Need-rest-zero-requires
-rest-zero-requires c κs = search needs
+rest-zero-requires c κs = omega (arith, c .before .before .before .before .before .before .before .before)
 
 returns-5 : tie.Need-returns-5
 returns-5 c =

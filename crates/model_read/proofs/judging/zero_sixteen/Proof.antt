@@ -3,20 +3,19 @@ use mathlib.Core.Path.{_≡_, sym, ap, ap₂, _∙_}
 use mathlib.Core.Bool.{_&&_}
 use native.Mathlib.Omega.{arith}
 use lib.Seq.{slice}
-use borrow.Author.Needs.{needs}
 use Rattle.laws.specs.Bytes.{zeros}
 use Rattle.model_read.proofs.ZeroBytes.{zeros-cover}
 use Rattle.model_read.proofs.judging.zero_sixteen.Statement.{statement}
 use Rattle.model_read.proofs.judging.zero_sixteen.Tie as tie
 
 zero-eight-requires : tie.Need-zero-eight-requires
-zero-eight-requires c κs = search needs
+zero-eight-requires c κs = omega (arith, c .before)
 
 add-zero-eight : tie.Need-add-zero-eight
-add-zero-eight c = search needs
+add-zero-eight c = omega (arith, c .before .before)
 
 zero-eight-requires-2 : tie.Need-zero-eight-requires-2
-zero-eight-requires-2 c κs = search needs
+zero-eight-requires-2 c κs = omega (arith, c .before .before)
 
 returns : tie.Need-returns
 returns c =

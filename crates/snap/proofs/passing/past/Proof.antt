@@ -2,7 +2,7 @@
 use native.Mathlib.Omega.{arith}
 use borrow.Author.Needs.{needs}
 use Rattle.snap.proofs.Parts.{in-slice}
-use Rattle.snap.proofs.Between.{all-passed}
+use Rattle.snap.proofs.Between.{past-all}
 use Rattle.snap.proofs.passing.past.Statement.{statement}
 use Rattle.snap.proofs.passing.past.Tie as tie
 
@@ -23,10 +23,13 @@ point3-requires-2 c κs =
     omega arith
 
 leap-requires : tie.Need-leap-requires
-leap-requires c κs = search needs
+leap-requires c κs = let p = c .before .before .before .before .before .pre in (p .0, p .1, p .3)
 
 land-requires : tie.Need-land-requires
-land-requires c κs = search needs
+land-requires c κs =
+    let p = c .before .before .before .before .before .before .pre in
+    let h = c .leap .ensures in
+    (h .0, h .1, p .1, p .3, h .2)
 
 add-result : tie.Need-add-result
 add-result c = search needs
@@ -34,11 +37,8 @@ add-result c = search needs
 returns : tie.Need-returns
 returns c =
     let s = c .before .before .before .before .before .before .before in
-    let a = s .args in
-    let p = s .pre in
-    let l = c .land .ensures in
-    let points = rw (c .before .before .point32 .ensures, c .before .before .before .before .point3 .ensures) at (l .2) in
-    (omega arith, omega arith, all-passed (a .coords .now) (p .5) (a .tol) (a .leader) (a .j) (c .land .result) (a .e) (a .work .now) (p .4) (l .0) (l .1) (p .6) (p .7) points)
+    past-all (s .args .coords .now) (s .pre .5) (s .args .tol) (s .args .leader) (s .args .j) (c .land .result) (s .args .e) (s .args .work .now)
+    (c .before .before .before .before .point3 .ensures) (c .before .before .point32 .ensures) (c .land .ensures) (s .pre .4) (s .pre .6) (s .pre .7)
 
 pub past-spec : {M : Type 1} → statement M
 past-spec =

@@ -1,0 +1,2 @@
+-- The candidates of a face of a model.
+pub mod Seeking

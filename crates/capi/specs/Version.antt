@@ -1,0 +1,5 @@
+-- The number of the interface.
+use Prim.Native.Nat.{ℕ}
+
+abbrev pub version : ℕ
+version = 1

@@ -1,0 +1,5 @@
+-- Laws of the full list.
+pub mod Shown
+pub mod Cells
+pub mod Whole
+pub mod Ways

@@ -1,0 +1,2 @@
+-- Laws of the two indexes.
+pub mod Standing
