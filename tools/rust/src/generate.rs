@@ -1,5 +1,5 @@
 //! Models to try and to time: grids of each kind, a hub, separate cells, stacks of prisms, rings
-//! over the same nodes, random cells.
+//! over the same nodes, quadrangles with a line in common, random cells.
 
 use crate::model::{MAX_CELLS, MAX_NODES, MAX_WORDS, Model};
 use crate::rng::Rng;
@@ -27,6 +27,7 @@ pub fn model(text: &str) -> Option<Model> {
         ("isolated", &[n]) => isolated(n),
         ("prisms", &[sides, n]) => prisms(sides, n),
         ("same", &[sides, n]) => same(sides, n),
+        ("line", &[n]) => line(n),
         ("soup4", &[n, nodes]) => soup(1, 4, n, nodes),
         ("soup8", &[n, nodes]) => soup(2, 8, n, nodes),
         ("rings6", &[n, nodes]) => soup(4, 6, n, nodes),
@@ -221,6 +222,17 @@ pub fn same(sides: usize, n: usize) -> Model {
     for cell in 0..n.min(MAX_CELLS + 1) {
         let own = m.push_node([0.0, 0.0, cell as f64 + 1.0]);
         m.push_phed(&[[&polygon[..], &[own]].concat()]);
+    }
+    m
+}
+
+/// Quadrangles that have three nodes in a line in common: every two are candidates, and no common nodes span an area.
+pub fn line(n: usize) -> Model {
+    let mut m = Model::default();
+    let common = [0.0, 1.0, 2.0].map(|x| m.push_node([x, 0.0, 0.0]));
+    for cell in 0..n.min(MAX_CELLS + 1) {
+        let own = m.push_node([1.0, 1.0, cell as f64]);
+        m.push_phed(&[[&common[..], &[own]].concat()]);
     }
     m
 }
