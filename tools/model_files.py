@@ -1,6 +1,6 @@
 #!/usr/bin/env python3
-"""model_files.py VECTORS: fills crates/operations/data from the folder of published cases and with models at document 01's limits, and
-writes what the program must print of them.
+"""model_files.py VECTORS: fills crates/model_files/data from the folder of published cases, and crates/operations/data with models at
+document 01's limits, and writes what these programs must print of them.
 
 A reading of document 01 and docs/FORMAT.md of its own: it judges and takes apart each file, judges the model by 5 to 10, and expects the
 same bytes back from each model that passes. Case 900 is the worked example of that page."""
@@ -210,23 +210,29 @@ def wanted(vectors):
     return chosen
 
 
-def main():
-    top = os.path.join(os.path.dirname(os.path.abspath(__file__)), "..", "crates", "operations")
+def fill(crate, files, printed):
+    """Writes the crate's data, and its stdout."""
+    top = os.path.join(os.path.dirname(os.path.abspath(__file__)), "..", "crates", crate)
     shutil.rmtree(os.path.join(top, "data"), ignore_errors=True)
     os.mkdir(os.path.join(top, "data"))
-    files = wanted(sys.argv[1]) + [("case-0900.in", example())]
-    at_limits = limits()
-    listed = ("limits", b"".join(limit_bytes(*one) for one in at_limits))
-    for name, data in files + [("good.in", good()), listed]:
+    for name, data in files:
         with open(os.path.join(top, "data", name), "wb") as f:
             f.write(data)
+    path = os.path.join(top, "stdout")
+    before = open(path).read() if os.path.exists(path) else ""
+    with open(path, "w") as f:
+        f.write(printed(before))
+
+
+def main():
+    files = wanted(sys.argv[1]) + [("case-0900.in", example())]
     lines = ["%s %s" % (name, outcome(data)[0]) for name, data in files]
     lines += ["good.in " + outcome(good())[0]] + damages(good())
-    path = os.path.join(top, "stdout")
-    printed = open(path).read()
-    between = printed[printed.index("lists of 12 words"):printed.index("case-")]  # what ring lists and lookups print
-    with open(path, "w") as f:
-        f.write("".join("%s %d\n" % (name, model_refusal(m)) for name, m in at_limits) + between + "\n".join(lines) + "\n")
+    fill("model_files", files + [("good.in", good())], lambda before: "\n".join(lines) + "\n")
+    listed = b"".join(limit_bytes(*one) for one in limits())
+    judged = "".join("%s %d\n" % (name, model_refusal(m)) for name, m in limits())
+    # what ring lists and lookups print stays as it was
+    fill("operations", [("limits", listed)], lambda before: judged + before[before.index("lists of 12 words"):])
 
 
 main()

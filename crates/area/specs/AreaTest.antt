@@ -1,11 +1,11 @@
 -- The area test, `common_nodes_span_area`: do nodes span an area?
 use Prim.Native.Nat.{ℕ, suc}
-use mathlib.Core.Bool.{Bool, true, false, not, cond, _&&_, _||_}
+use mathlib.Core.Bool.{Bool, true, not, cond, _&&_, _||_}
 use mathlib.Core.List.{List, [], _∷_, map}
-use lib.Dec.{leb, ltb}
+use lib.Dec.{eqb, leb, ltb}
 use lib.ListN.{length}
 use lib.Ieee.{Float, binary64, mul, lt, le}
-use Rattle.laws.specs.Lists.{any, first, keep}
+use Rattle.laws.specs.Lists.{any, first, keep, fold}
 use Rattle.laws.specs.Limits.{ringLimit}
 use Rattle.laws.specs.Refusals.{Answer, refused, done, refusal, answer}
 use Rattle.floats.specs.Floats.{zero64, largerOf}
@@ -24,13 +24,9 @@ abbrev pub differencesOf : List Point → List Point
 differencesOf [] = []
 differencesOf (o ∷ ps) = map (λ p. pointSub p o) ps
 
-abbrev pub extentFrom : Float → List Point → Float
-extentFrom m [] = m
-extentFrom m (d ∷ ds) = extentFrom (largerOf m (lengthOf d)) ds
-
 -- extent: the largest root of d · d
 abbrev pub extentOf : List Point → Float
-extentOf ds = extentFrom zero64 ds
+extentOf ds = fold (λ m d. largerOf m (lengthOf d)) zero64 ds
 
 -- direction: the first difference with root > eps, alone; nothing where there is none
 abbrev pub directionOf : Float → List Point → List Point
@@ -62,11 +58,7 @@ areaNumber Spans = 4
 
 -- the answer is "spans"
 abbrev pub isSpans : Area → Bool
-isSpans TooFew = false
-isSpans Together = false
-isSpans NoDirection = false
-isSpans Thin = false
-isSpans Spans = true
+isSpans a = eqb (areaNumber a) 4
 
 -- ---- the public operation
 

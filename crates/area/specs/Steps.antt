@@ -1,6 +1,7 @@
 -- For internal contracts only: differences from a point, their largest d · d, and a direction as the code hands it on.
 use mathlib.Core.List.{List, [], _∷_, map}
 use lib.Ieee.{Float}
+use Rattle.laws.specs.Lists.{fold}
 use Rattle.floats.specs.Floats.{zero64, largerOf}
 use Rattle.geometry.specs.declared.Point.{Point}
 use Rattle.geometry.specs.Points.{pointSub, pointDot}
@@ -12,8 +13,7 @@ awayFrom o ps = map (λ p. pointSub p o) ps
 
 -- the largest of m and each d · d
 abbrev pub mostFrom : Float → List Point → Float
-mostFrom m [] = m
-mostFrom m (d ∷ ds) = mostFrom (largerOf m (pointDot d d)) ds
+mostFrom m ds = fold (λ x d. largerOf x (pointDot d d)) m ds
 
 abbrev pub mostOf : List Point → Float
 mostOf ds = mostFrom zero64 ds

@@ -1,4 +1,5 @@
-// The area test: do nodes span an area? Each float expression is that of the Rust, in its order; a root is found only where a comparison needs it.
+// The area test: do nodes span an area? Differences, dots and crosses are the Rust's expressions, in its order. Its roots are found once for
+// the extent, of the largest square, and elsewhere only where squares do not decide; the contracts say that the answer is the same.
 ghost use mathlib.Core.Path.{_≡_};
 ghost use Prim.Native.Nat.{_<_, _≤_};
 ghost use lib.ListN.{length, getD, drop};

@@ -4,14 +4,16 @@ use mathlib.Core.Bool.{Bool, true, false}
 use mathlib.Core.List.{List}
 use Prim.Native.Nat.{ℕ, suc, _+_, _-_, _%_, _<_, _≤_}
 use native.Mathlib.Nat.{mod-lt}
+use native.Mathlib.Numerals.{add-one}
 use native.Mathlib.Omega.{arith}
 use lib.ListN.{length, getD}
 use lib.Ieee.{Float}
 use borrow.Author.Tests.{lt-ltb, le-ltb}
+use Rattle.laws.specs.Lists.{any, upFrom}
 use Rattle.geometry.specs.Points.{pointAt, pointsOf}
 use Rattle.geometry.specs.Scale.{scaleOf, epsOf}
 use Rattle.bow_tie.specs.Edges.{edgesMeet}
-use Rattle.bow_tie.specs.BowTie.{anyFrom, following, firstAndLast, pairMeets, laterMeets, bowTieOf}
+use Rattle.bow_tie.specs.BowTie.{following, firstAndLast, pairMeets, laterMeets, bowTieOf}
 use Rattle.geometry.proofs.Listed.{points-length, points-at}
 
 -- one number less to search
@@ -19,16 +21,16 @@ more : (n j : ℕ) → j < n → n - j ≡ suc (n - (j + 1))
 more n j h = omega arith
 
 -- j is none: search on
-pub any-skip : (f : ℕ → Bool) (n j : ℕ) → j < n → f j ≡ false → anyFrom f (n - j) j ≡ anyFrom f (n - (j + 1)) (j + 1)
-any-skip f n j h t = rw (more n j h) (simp t)
+pub any-skip : (f : ℕ → Bool) (n j : ℕ) → j < n → f j ≡ false → any f (upFrom j (n - j)) ≡ any f (upFrom (j + 1) (n - (j + 1)))
+any-skip f n j h t = rw (more n j h, add-one j) (simp t)
 
 -- j is one
-pub any-found : (f : ℕ → Bool) (n j : ℕ) → j < n → f j ≡ true → anyFrom f (n - j) j ≡ true
+pub any-found : (f : ℕ → Bool) (n j : ℕ) → j < n → f j ≡ true → any f (upFrom j (n - j)) ≡ true
 any-found f n j h t = rw (more n j h) (simp t)
 
 -- nothing left to search
-pub any-end : (f : ℕ → Bool) (n j : ℕ) → n ≤ j → anyFrom f (n - j) j ≡ false
-any-end f n j h = ap (λ (k : ℕ). anyFrom f k j) (none n j h)
+pub any-end : (f : ℕ → Bool) (n j : ℕ) → n ≤ j → any f (upFrom j (n - j)) ≡ false
+any-end f n j h = ap (λ (k : ℕ). any f (upFrom j k)) (none n j h)
   where
     none : (n j : ℕ) → n ≤ j → n - j ≡ 0
     none n j h = omega arith
@@ -37,9 +39,9 @@ any-end f n j h = ap (λ (k : ℕ). anyFrom f k j) (none n j h)
 
 -- edge i's search starts at i + 2
 pub later : (eps : Float) (c : List Float) (ks : List ℕ) (i : ℕ)
-    → laterMeets eps (pointsOf c ks) i ≡ anyFrom (pairMeets eps (pointsOf c ks) i) (length ks - (i + 2)) (i + 2)
+    → laterMeets eps (pointsOf c ks) i ≡ any (pairMeets eps (pointsOf c ks) i) (upFrom (i + 2) (length ks - (i + 2)))
 unfolding laterMeets
-later eps c ks i = ap (λ (n : ℕ). anyFrom (pairMeets eps (pointsOf c ks) i) (n - (i + 2)) (i + 2)) (points-length c ks)
+later eps c ks i = ap (λ (n : ℕ). any (pairMeets eps (pointsOf c ks) i) (upFrom (i + 2) (n - (i + 2)))) (points-length c ks)
 
 -- fewer than four corners
 pub short : (tol : Float) (c : List Float) (ks : List ℕ) → length ks < 4 → false ≡ bowTieOf tol (pointsOf c ks)
@@ -48,9 +50,9 @@ short tol c ks h = simp (points-length, lt-ltb (length ks) 4 h)
 
 -- four corners or more: the search starts at edge 0
 pub whole : (tol : Float) (c : List Float) (ks : List ℕ) → 4 ≤ length ks
-    → anyFrom (laterMeets (epsOf tol (scaleOf (pointsOf c ks))) (pointsOf c ks)) (length ks - 0) 0 ≡ bowTieOf tol (pointsOf c ks)
+    → any (laterMeets (epsOf tol (scaleOf (pointsOf c ks))) (pointsOf c ks)) (upFrom 0 (length ks - 0)) ≡ bowTieOf tol (pointsOf c ks)
 unfolding bowTieOf
-whole tol c ks h = simp (points-length, le-ltb (length ks) 4 h) (ap (λ (n : ℕ). anyFrom (laterMeets (epsOf tol (scaleOf (pointsOf c ks))) (pointsOf c ks)) n 0) (all (length ks)))
+whole tol c ks h = simp (points-length, le-ltb (length ks) 4 h) (ap (λ (n : ℕ). any (laterMeets (epsOf tol (scaleOf (pointsOf c ks))) (pointsOf c ks)) (upFrom 0 n)) (all (length ks)))
   where
     all : (n : ℕ) → n - 0 ≡ n
     all n = omega arith

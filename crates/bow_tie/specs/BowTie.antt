@@ -1,19 +1,15 @@
 -- A ring that meets itself: two of its edges, not neighbours, share a point.
-use mathlib.Core.Bool.{Bool, false, cond, _&&_, _||_}
+use mathlib.Core.Bool.{Bool, false, cond, _&&_}
 use mathlib.Core.List.{List}
-use Prim.Native.Nat.{ℕ, zero, suc, _+_, _-_, _%_}
+use Prim.Native.Nat.{ℕ, _+_, _-_, _%_}
 use lib.Dec.{eqb, ltb}
 use lib.ListN.{length, getD}
 use lib.Ieee.{Float}
+use Rattle.laws.specs.Lists.{any, upFrom}
 use Rattle.geometry.specs.declared.Point.{Point}
 use Rattle.geometry.specs.Points.{origin}
 use Rattle.geometry.specs.Scale.{scaleOf, epsOf}
 use Rattle.bow_tie.specs.Edges.{edgesMeet}
-
--- f holds at one of the n numbers from j on
-abbrev pub anyFrom : (ℕ → Bool) → ℕ → ℕ → Bool
-anyFrom f zero j = false
-anyFrom f (suc n) j = f j || anyFrom f n (j + 1)
 
 -- edge i of a ring runs from corner i to corner i + 1, the last one to corner 0
 abbrev pub corner : List Point → ℕ → Point
@@ -33,9 +29,9 @@ pairMeets eps ps i j =
 
 -- edge i meets a later one
 unfoldable pub laterMeets : Float → List Point → ℕ → Bool
-laterMeets eps ps i = anyFrom (pairMeets eps ps i) (length ps - (i + 2)) (i + 2)
+laterMeets eps ps i = any (pairMeets eps ps i) (upFrom (i + 2) (length ps - (i + 2)))
 
 -- `face_self_intersects`
 unfoldable pub bowTieOf : Float → List Point → Bool
 bowTieOf tol ps =
-    cond (ltb (length ps) 4) false (anyFrom (laterMeets (epsOf tol (scaleOf ps)) ps) (length ps) 0)
+    cond (ltb (length ps) 4) false (any (laterMeets (epsOf tol (scaleOf ps)) ps) (upFrom 0 (length ps)))

@@ -100,13 +100,7 @@ module _ (R : Rules) (cs : List Raw) (n : ℕ) where
       (every-keep (λ (g : Face). g .cell < n) (sameKey (faceAt all f)) all (faces-below (R .rings) n cs h)) in
       let own : Every (λ (c : ℕ). c < n) os = rw (t .owners) low in
       let many : length os ≤ length all = omega (arith, ap length (t .owners), length-map kept (λ (g : Face). g .cell), keep-length (sameKey (faceAt all f)) all) in
-      record {
-        first = rw (t .first) (every-getD (λ (c : ℕ). c < n) os 0 0 (omega arith) own);
-        second = rw (t .second) (every-getD (λ (c : ℕ). c < n) os 1 0 (omega arith) own);
-        a = omega (arith, t .within);
-        b = omega arith;
-        count = omega (arith, t .count);
-      }
+      (rw (t .first) (every-getD (λ (c : ℕ). c < n) os 0 0 (omega arith) own), rw (t .second) (every-getD (λ (c : ℕ). c < n) os 1 0 (omega arith) own), omega (arith, t .within), omega arith, omega (arith, t .count))
 
   -- a partly shared pair's numbers
   pair-below : (c₁ c₂ a b : ℕ) (ns : List ℕ) → length cs ≤ n → length all < n → Every (λ (f : Face). length (f .ring) < n) all → PartlyTold all c₁ c₂ a b ns → Below n (fieldsOf (partly c₁ c₂ a b ns))
@@ -114,13 +108,7 @@ module _ (R : Rules) (cs : List Raw) (n : ℕ) where
   pair-below c₁ c₂ a b ns h w r t =
       let cell : ((i : ℕ) → faceAt all i .cell < n) = λ i. every-getD (λ (f : Face). f .cell < n) all i noFace (omega arith) (faces-below (R .rings) n cs h) in
       let long : length (faceAt all a .ring) < n = every-getD (λ (f : Face). length (f .ring) < n) all a noFace (omega arith) r in
-      record {
-        first = rw (t .cellA) (cell a);
-        second = rw (t .cellB) (cell b);
-        a = omega (arith, t .withinA);
-        b = omega (arith, t .withinB);
-        count = omega (arith, ap length (t .nodes), common-length (faceAt all a .ring) (faceAt all b .ring));
-      }
+      (rw (t .cellA) (cell a), rw (t .cellB) (cell b), omega (arith, t .withinA), omega (arith, t .withinB), omega (arith, ap length (t .nodes), common-length (faceAt all a .ring) (faceAt all b .ring)))
 
   -- every finding's numbers
   pub below : (flags : ℕ) (x : Finding) → 2 < n → length cs ≤ n → length all < n → Every (λ (f : Face). length (f .ring) < n) all → Every (λ (c : Raw). Every (Low n) (R .repeats c)) cs
@@ -128,7 +116,7 @@ module _ (R : Rules) (cs : List Raw) (n : ℕ) where
   below flags x two h w r q m = go x (every-mem (Plain n) m (all-plain flags h q)) (told R flags cs x m)
     where
       go : (x : Finding) → Plain n x → Told all x → Below n (fieldsOf x)
-      go (bowtie c) p t = unfold Plain fieldsOf in record { first = p; second = omega arith; a = omega arith; b = omega arith; count = omega arith }
+      go (bowtie c) p t = unfold Plain fieldsOf in (p, omega arith, omega arith, omega arith, omega arith)
       go (overfull c₁ c₂ f k ks os) p t = over-below c₁ c₂ f k ks os h w (unfold Told in t)
       go (partly c₁ c₂ a b ns) p t = pair-below c₁ c₂ a b ns h w r (unfold Told in t)
-      go (repeated c a b) p t = unfold Plain fieldsOf in record { first = p .0; second = p .0; a = p .1 .0; b = p .1 .1; count = two }
+      go (repeated c a b) p t = unfold Plain fieldsOf in (p .0, p .0, p .1 .0, p .1 .1, two)

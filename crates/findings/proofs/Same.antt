@@ -59,9 +59,9 @@ back-alike : (fs : List Face) (r s : Fields) → Below 4294967296 r → Below 42
 unfolding readBack
 back-alike fs r s h k e =
     let p = e .kind in
-    let q : r .first ≡ s .first = four (r .first) (s .first) (h .first) (k .first) (e .first) in
-    let t : r .a ≡ s .a = four (r .a) (s .a) (h .a) (k .a) (e .a) in
-    let u : r .b ≡ s .b = four (r .b) (s .b) (h .b) (k .b) (e .b) in
+    let q : r .first ≡ s .first = four (r .first) (s .first) (h .0) (k .0) (e .first) in
+    let t : r .a ≡ s .a = four (r .a) (s .a) (h .2) (k .2) (e .a) in
+    let u : r .b ≡ s .b = four (r .b) (s .b) (h .3) (k .3) (e .b) in
     cc
 
 -- two findings that the faces tell, all their numbers below 2^32, with the same record

@@ -17,21 +17,17 @@ use Rattle.findings.specs.Compared.{namesPair, moved}
 
 -- ---- the condition of a partly shared pair, in words
 
--- r is a ring of a and s one of b: their node sets differ, and three or more common nodes pass the area test
-pub record Sharing (R : Rules) (a b : Raw) (r s : List ℕ) : Type 0 where
-  pub ofA : List·Memᴰ r (R .rings a)
-  pub ofB : List·Memᴰ s (R .rings b)
-  pub unlike : nodeSet r ≢ nodeSet s
-  pub three : 3 ≤ length (common r s)
-  pub area : R .spans (common r s) ≡ true
-
--- neither cell is a bow-tie, and some face of a and some face of b share so
+-- neither cell is a bow-tie; a ring of a and one of b have unlike node sets, and three or more common nodes that pass the area test
 pub record PartlyShared (R : Rules) (a b : Raw) : Type 0 where
   pub plainA : R .bow a ≡ false
   pub plainB : R .bow b ≡ false
   pub ringA : List ℕ
   pub ringB : List ℕ
-  pub sharing : Sharing R a b ringA ringB
+  pub ofA : List·Memᴰ ringA (R .rings a)
+  pub ofB : List·Memᴰ ringB (R .rings b)
+  pub unlike : nodeSet ringA ≢ nodeSet ringB
+  pub three : 3 ≤ length (common ringA ringB)
+  pub area : R .spans (common ringA ringB) ≡ true
 
 -- ---- the findings of kind 3
 
@@ -59,12 +55,8 @@ readBack fs r =
     (repeated (r .first) (r .a) (r .b))))
 
 -- all numbers of a record are below n
-pub record Below (n : ℕ) (r : Fields) : Type 0 where
-  pub first : r .first < n
-  pub second : r .second < n
-  pub a : r .a < n
-  pub b : r .b < n
-  pub count : r .count < n
+abbrev pub Below : ℕ → Fields → Type 0
+Below n r = (r .first < n) × (r .second < n) × (r .a < n) × (r .b < n) × (r .count < n)
 
 -- ---- what a report says
 

@@ -37,10 +37,8 @@ pointBytes p = floatBytes (p .x) ++ (floatBytes (p .y) ++ floatBytes (p .z))
 -- byte 0 kind; bytes 4 first cell, 8 second, 12 item a, 16 item b, 20 count; bytes 32 to 55 centre; the rest zero
 unfoldable pub recordBytes : Fields → Point → List ℕ
 recordBytes f p =
-    f .kind
-    ∷ (replicate 3 0
-    ++ (bytes 4 (f .first)
-    ++ (bytes 4 (f .second) ++ (bytes 4 (f .a) ++ (bytes 4 (f .b) ++ (bytes 4 (f .count) ++ (replicate 8 0 ++ (pointBytes p ++ replicate 8 0))))))))
+    f .kind ∷ (replicate 3 0 ++ (bytes 4 (f .first) ++ (bytes 4 (f .second) ++ (bytes 4 (f .a) ++ (bytes 4 (f .b) ++ (bytes 4 (f .count)
+    ++ (replicate 8 0 ++ (pointBytes p ++ replicate 8 0))))))))
 
 unfoldable pub recordOf : Rules → Finding → List ℕ
 recordOf R f = recordBytes (fieldsOf f) (centreIn R f)

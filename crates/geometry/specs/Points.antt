@@ -1,11 +1,12 @@
 -- Points: every sum, product and quotient is rounded once, in the order written.
 use Prim.Native.Nat.{ℕ, _*_, _+_}
 use mathlib.Core.Bool.{cond}
-use mathlib.Core.List.{List, [], _∷_, map}
+use mathlib.Core.List.{List, map}
 use lib.Dec.{eqb}
 use lib.IntN.{pos}
 use lib.ListN.{length, getD}
 use lib.Ieee.{Float, binary64, ofInt, add, sub, mul, div}
+use Rattle.laws.specs.Lists.{fold}
 use Rattle.floats.specs.Floats.{zero64, one64, two64}
 use Rattle.floats.specs.Root.{sqrt}
 use Rattle.geometry.specs.declared.Point.{Point}
@@ -14,13 +15,11 @@ use Rattle.geometry.specs.declared.Point.{Point}
 
 -- difference: a - b
 unfoldable pub pointSub : Point → Point → Point
-pointSub a b =
-    record { x = sub binary64 (a .x) (b .x); y = sub binary64 (a .y) (b .y); z = sub binary64 (a .z) (b .z) }
+pointSub a b = record { x = sub binary64 (a .x) (b .x); y = sub binary64 (a .y) (b .y); z = sub binary64 (a .z) (b .z) }
 
 -- sum: a + b
 unfoldable pub pointAdd : Point → Point → Point
-pointAdd a b =
-    record { x = add binary64 (a .x) (b .x); y = add binary64 (a .y) (b .y); z = add binary64 (a .z) (b .z) }
+pointAdd a b = record { x = add binary64 (a .x) (b .x); y = add binary64 (a .y) (b .y); z = add binary64 (a .z) (b .z) }
 
 -- a * s
 unfoldable pub pointScale : Point → Float → Point
@@ -38,11 +37,7 @@ minor a b c d = sub binary64 (mul binary64 a b) (mul binary64 c d)
 -- cross: a × b
 unfoldable pub pointCross : Point → Point → Point
 pointCross a b =
-    record {
-      x = minor (a .y) (b .z) (a .z) (b .y);
-      y = minor (a .z) (b .x) (a .x) (b .z);
-      z = minor (a .x) (b .y) (a .y) (b .x);
-    }
+    record { x = minor (a .y) (b .z) (a .z) (b .y); y = minor (a .z) (b .x) (a .x) (b .z); z = minor (a .x) (b .y) (a .y) (b .x) }
 
 -- the root of a · a
 unfoldable pub lengthOf : Point → Float
@@ -74,13 +69,9 @@ pointsOf c ks = map (pointAt c) ks
 
 -- ---- the centre of points, `key_centroid`: their sum in order from 0, times 1 / n (1 / 1 where there is none)
 
-abbrev pub sumFrom : Point → List Point → Point
-sumFrom s [] = s
-sumFrom s (p ∷ ps) = sumFrom (pointAdd s p) ps
-
 -- 1 / n
 unfoldable pub share : ℕ → Float
 share n = div binary64 one64 (ofInt binary64 (pos (cond (eqb n 0) 1 n)))
 
 unfoldable pub centreOf : List Point → Point
-centreOf ps = pointScale (sumFrom origin ps) (share (length ps))
+centreOf ps = pointScale (fold pointAdd origin ps) (share (length ps))

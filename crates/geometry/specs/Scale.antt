@@ -1,6 +1,7 @@
 -- Scale and eps: the slack of every comparison between lengths.
-use mathlib.Core.List.{List, [], _∷_}
+use mathlib.Core.List.{List}
 use lib.Ieee.{Float, binary64, ofBits, mul}
+use Rattle.laws.specs.Lists.{fold}
 use Rattle.floats.specs.Floats.{one64, absoluteOf, largerOf}
 use Rattle.geometry.specs.declared.Point.{Point}
 
@@ -8,13 +9,9 @@ use Rattle.geometry.specs.declared.Point.{Point}
 unfoldable pub largestOf : Float → Point → Float
 largestOf m p = largerOf (largerOf (largerOf m (absoluteOf (p .x))) (absoluteOf (p .y))) (absoluteOf (p .z))
 
-abbrev pub scaleFrom : Float → List Point → Float
-scaleFrom m [] = m
-scaleFrom m (p ∷ ps) = scaleFrom (largestOf m p) ps
-
 -- scale: the largest of 1 and all |coordinate|
 abbrev pub scaleOf : List Point → Float
-scaleOf ps = scaleFrom one64 ps
+scaleOf ps = fold largestOf one64 ps
 
 -- 64 * 2 ^ -52
 abbrev pub grain : Float

@@ -32,6 +32,11 @@ module _ {ℓ κ} {A : Type ℓ} {B : Type κ} where
   each f [] = []
   each f (x ∷ xs) = f x ++ each f xs
 
+  -- f over the elements in order, from b on
+  abbrev pub fold : (B → A → B) → B → List A → B
+  fold f b [] = b
+  fold f b (x ∷ xs) = fold f (f b x) xs
+
   -- the same where f may also look at the elements before and those after
   abbrev pub walk : (List A → A → List A → List B) → List A → List A → List B
   walk f before [] = []

@@ -75,9 +75,7 @@ facesIn m = faces ringsOf (numbered ringsOf (cellsOf m))
 -- 8R + 4F + 8C + 4N + 4M + 16 words (ring words, faces, cells, nodes, words)
 unfoldable pub workNeeded : Model → ℕ
 workNeeded m =
-    8 * length (ringWords (facesIn m)) + 4 * length (facesIn m) + 8 * length (m .kinds) + 4 * nodeCount (m .coords)
-    + 4 * length (m .words)
-    + 16
+    8 * length (ringWords (facesIn m)) + 4 * length (facesIn m) + 8 * length (m .kinds) + 4 * nodeCount (m .coords) + 4 * length (m .words) + 16
 
 -- checking a model, with so many words of work: 5 to 11
 abbrev pub checkTable : Model → ℕ → List (ℕ × Bool)

@@ -20,13 +20,7 @@ tetRings = (0 ∷ 1 ∷ 3 ∷ []) ∷ (1 ∷ 2 ∷ 3 ∷ []) ∷ (2 ∷ 0 ∷ 3 
 -- the hexahedron's six rings of four local places
 abbrev pub hexRings : List (List ℕ)
 hexRings =
-    (0 ∷ 3 ∷ 2 ∷ 1 ∷ [])
-    ∷ (4 ∷ 5 ∷ 6 ∷ 7 ∷ [])
-    ∷ (0 ∷ 1 ∷ 5 ∷ 4 ∷ [])
-    ∷ (2 ∷ 3 ∷ 7 ∷ 6 ∷ [])
-    ∷ (1 ∷ 2 ∷ 6 ∷ 5 ∷ [])
-    ∷ (3 ∷ 0 ∷ 4 ∷ 7 ∷ [])
-    ∷ []
+    (0 ∷ 3 ∷ 2 ∷ 1 ∷ []) ∷ (4 ∷ 5 ∷ 6 ∷ 7 ∷ []) ∷ (0 ∷ 1 ∷ 5 ∷ 4 ∷ []) ∷ (2 ∷ 3 ∷ 7 ∷ 6 ∷ []) ∷ (1 ∷ 2 ∷ 6 ∷ 5 ∷ []) ∷ (3 ∷ 0 ∷ 4 ∷ 7 ∷ []) ∷ []
 
 -- local places of a wedge's rings
 abbrev pub wedgeRings : List (List ℕ)

@@ -27,8 +27,7 @@ moreRecords (suc n) ws = moreRecord (take wordsMost ws) ∷ moreRecords n (drop 
 
 -- a cell: C, then as many K as its further words need
 abbrev pub cellRecords : Raw → List (List ℕ)
-cellRecords c =
-    cellRecord (c .kind) (take wordsMost (c .words)) ∷ moreRecords ((length (c .words) - 1) / wordsMost) (drop wordsMost (c .words))
+cellRecords c = cellRecord (c .kind) (take wordsMost (c .words)) ∷ moreRecords ((length (c .words) - 1) / wordsMost) (drop wordsMost (c .words))
 
 -- all N first, then cells, one T last
 unfoldable pub recordsOf : Model → List (List ℕ)

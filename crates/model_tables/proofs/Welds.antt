@@ -1,19 +1,18 @@
 -- Welded numbers are nodes.
-use Prim.Native.Nat.{ℕ, zero, suc, _<_}
+use Prim.Native.Nat.{ℕ, zero, suc, _<_, min}
 use mathlib.Core.Path.{_≡_, _∙_}
 use mathlib.Core.Bool.{Bool, true, false, cond, _||_}
 use mathlib.Core.List.{List, [], _∷_}
 use native.Mathlib.Omega.{arith}
-use lib.Dec.{ltb}
 use lib.Ieee.{Float, eq}
 use lib.ListN.{length, set}
-use Rattle.laws.specs.Lists.{elem, sort, upFrom}
+use Rattle.laws.specs.Lists.{fold, elem, sort, upFrom}
 use Rattle.laws.specs.Merging.{AllBelow}
 use Rattle.laws.proofs.Bounds.{below-sort, below-upFrom}
 use Rattle.laws.proofs.ListLaws.{length-upFrom}
 use Rattle.floats.specs.Floats.{zero64}
 use Rattle.geometry.specs.Coordinates.{nodeCount}
-use Rattle.snap.specs.Weld.{beforeOf, takes, groups, leastFrom, least, give, spread, welded, weldedAll}
+use Rattle.snap.specs.Weld.{beforeOf, takes, groups, least, give, spread, welded, weldedAll}
 use Rattle.snap.proofs.Groups.{nodes-takes, length-spread}
 
 -- groups of nodes below n, none empty
@@ -22,13 +21,9 @@ Grouped n [] = Unit {0}
 Grouped n (g ∷ gs) = (0 < length g) × AllBelow n g × Grouped n gs
 
 -- the least of nodes is one
-least-from : (n m : ℕ) (l : List ℕ) → m < n → AllBelow n l → leastFrom m l < n
+least-from : (n m : ℕ) (l : List ℕ) → m < n → AllBelow n l → fold min m l < n
 least-from n m [] h k = h
-least-from n m (x ∷ l) h k = least-from n (cond (ltb x m) x m) l (go (ltb x m)) (k .1)
-  where
-    go : (b : Bool) → cond b x m < n
-    go true = k .0
-    go false = h
+least-from n m (x ∷ l) h k = least-from n (min m x) l (omega arith) (k .1)
 
 -- the least of a group is a node
 least-below : (n : ℕ) (g : List ℕ) → 0 < length g → AllBelow n g → least g < n

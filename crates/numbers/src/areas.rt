@@ -2,7 +2,6 @@
 // list in four bytes each, document 01's answer as our number, and whether the Rust says that the nodes span an area.
 ghost use Prim.Native.Nat.{_+_, _*_, _^_, _≤_, _<_};
 ghost use lib.ListN.{length};
-use crate::bytes;
 use area::Area;
 use area::AreaAnswer;
 
@@ -23,7 +22,7 @@ fn read_nodes(test: &[u8], at: usize, nodes: &mut [u32], k: usize)
 {
     let mut i = 0;
     while i < k {
-        nodes[i] = bytes::four(test, at + 4 * i) as u32;
+        nodes[i] = test_support::four(test, at + 4 * i) as u32;
         i += 1;
     }
 }
@@ -34,7 +33,7 @@ fn answer(test: &[u8], n: usize, k: usize) -> usize
 {
     let mut coords = [0.0f64; 192];
     let mut nodes = [0u32; 64];
-    bytes::read_coords(test, &mut coords, 3 * n);
+    test_support::read_coords(test, 16, &mut coords, 3 * n);
     read_nodes(test, 16 + 24 * n, &mut nodes, k);
     let a = area::area_test(&coords[0..3 * n], &nodes[0..k], floats::le_f64(test, 8));
     match a {
@@ -48,8 +47,8 @@ pub fn agrees(test: &[u8]) -> bool {
     if test.len() < 16 {
         return false;
     }
-    let n = bytes::four(test, 0);
-    let k = bytes::four(test, 4);
+    let n = test_support::four(test, 0);
+    let k = test_support::four(test, 4);
     if n > 64 {
         return false;
     }
@@ -63,5 +62,5 @@ pub fn agrees(test: &[u8]) -> bool {
     let says = answer(test, n, k);
     let spans = says == 4;
     let theirs = test[end + 1] == 1;
-    (says == bytes::wide(test[end])) & (spans == theirs)
+    (says == test_support::wide(test[end])) & (spans == theirs)
 }

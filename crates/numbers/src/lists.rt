@@ -2,9 +2,7 @@
 ghost use Prim.Native.Nat.{_+_, _≤_, _<_};
 ghost use lib.ListN.{length};
 use crate::areas;
-use crate::bytes;
 use crate::welds;
-use libc::STDOUT_FILENO;
 
 // What a list holds.
 pub enum Kind {
@@ -36,13 +34,13 @@ fn entry_at(s: &[u8], at: usize) -> Entry
     requires { ⌜ at < length (now s) ⌝ }
     ensures { λ r. ⌜ (r .name ≤ r .size) × (r .size ≤ r .to) × (r .from ≤ r .to) × (r .to ≤ length (now (s .entry))) ⌝ }
 {
-    let name = bytes::wide(s[at]);
+    let name = test_support::wide(s[at]);
     let left = s.len() - at;
     if left < name + 5 {
         return cut_short();
     }
     let size = at + 1 + name;
-    let content = bytes::four(s, size);
+    let content = test_support::four(s, size);
     if left < name + 5 + content {
         return cut_short();
     }
@@ -62,16 +60,6 @@ fn agrees(set: &[u8], kind: Kind) -> bool {
     }
 }
 
-// The line of an entry.
-fn tell(name: &[u8], agrees: bool) {
-    io::write_all(STDOUT_FILENO, name);
-    if agrees {
-        io::write_all(STDOUT_FILENO, b" agrees\n");
-    } else {
-        io::write_all(STDOUT_FILENO, b" differs\n");
-    }
-}
-
 // The entries of a list, one after the other.
 fn run_all(s: &[u8], kind: Kind) {
     let mut at: usize = 0;
@@ -82,10 +70,10 @@ fn run_all(s: &[u8], kind: Kind) {
         let from = e.from;
         let to = e.to;
         if to <= at {
-            tell(b"an entry cut short", false);
+            test_support::tell_agrees(b"an entry cut short", false);
             return;
         }
-        tell(&s[name..size], agrees(&s[from..to], kind));
+        test_support::tell_agrees(&s[name..size], agrees(&s[from..to], kind));
         at = to;
     }
 }
@@ -93,6 +81,6 @@ fn run_all(s: &[u8], kind: Kind) {
 // The list of data/ with that name.
 pub fn run(name: &[u8], kind: Kind) {
     let mut buf = [0u8; 300000];
-    let n = bytes::read_file(name, &mut buf);
+    let n = test_support::read_file(name, &mut buf).size;
     run_all(&buf[0..n], kind);
 }

@@ -1,6 +1,5 @@
 // Recorded numbers, computed again: square roots, welded node sets, area tests. A line for the roots, and one for each set and test.
 mod areas;
-mod bytes;
 mod lists;
 mod roots;
 mod welds;

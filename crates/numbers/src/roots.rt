@@ -2,7 +2,6 @@
 ghost use mathlib.Core.Path.{_≡_};
 ghost use Prim.Native.Nat.{_+_, _/_, _≤_};
 ghost use lib.ListN.{length};
-use crate::bytes;
 use libc::STDOUT_FILENO;
 
 // How many pairs were run, and how many agree.
@@ -39,7 +38,7 @@ fn run_all(s: &[u8]) -> Tally
 // The roots of data/.
 pub fn run() {
     let mut buffer = io::large_buffer();
-    let n = bytes::read_file(b"roots", &mut buffer);
+    let n = test_support::read_file(b"roots", &mut buffer).size;
     let t = run_all(&buffer[..n]);
     io::write_all(STDOUT_FILENO, b"roots ");
     io::print_decimal(STDOUT_FILENO, t.run);

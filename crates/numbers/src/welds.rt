@@ -2,7 +2,6 @@
 // number a node in four bytes.
 ghost use Prim.Native.Nat.{_+_, _*_, _≤_};
 ghost use lib.ListN.{length};
-use crate::bytes;
 use snap::WeldAnswer;
 
 fn wide_word(w: u32) -> u64 {
@@ -28,7 +27,7 @@ pub fn agrees(set: &[u8]) -> bool {
     if set.len() < 16 {
         return false;
     }
-    let n = bytes::four(set, 0);
+    let n = test_support::four(set, 0);
     if n > 10000 {
         return false;
     }
@@ -38,7 +37,7 @@ pub fn agrees(set: &[u8]) -> bool {
     let mut coords = [0.0f64; 30000];
     let mut map = [0u32; 10000];
     let mut scratch = [0u32; 30000];
-    bytes::read_coords(set, &mut coords, 3 * n);
+    test_support::read_coords(set, 16, &mut coords, 3 * n);
     let answer = snap::weld(
         &coords[0..3 * n],
         floats::le_f64(set, 8),

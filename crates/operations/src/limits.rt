@@ -6,7 +6,7 @@
 ghost use mathlib.Core.Path.{_≡_};
 ghost use Prim.Native.Nat.{_+_, _≤_, _<_};
 ghost use lib.ListN.{length};
-use crate::lines;
+use crate::nodes;
 use mesh::Checks;
 use ring_lists::RingsAnswer;
 
@@ -20,29 +20,23 @@ struct Parts {
     to: usize,
 }
 
-fn wide(b: u8) -> usize
-    ensures { λ r. ⌜ r < 256 ⌝ }
-{
-    b as usize
-}
-
 // The parts of the model at a place.
 fn parts_at(s: &[u8], at: usize) -> Parts
     requires { ⌜ at + 24 ≤ length (now s) ⌝ }
     ensures { λ r. ⌜ (at + 24 ≤ r .name) × (r .name ≤ r .coords) × (r .coords ≤ r .kinds) × (r .kinds ≤ r .ends) × (r .ends ≤ r .words) × (r .words ≤ r .to) ⌝ }
 {
     let name = at + 24;
-    let coords = name + wide(s[at]);
-    let kinds = coords + 8 * wide(s[at + 1]);
-    let ends = kinds + wide(s[at + 2]);
-    let words = ends + 4 * wide(s[at + 3]);
+    let coords = name + test_support::wide(s[at]);
+    let kinds = coords + 8 * test_support::wide(s[at + 1]);
+    let ends = kinds + test_support::wide(s[at + 2]);
+    let words = ends + 4 * test_support::wide(s[at + 3]);
     Parts {
         name,
         coords,
         kinds,
         ends,
         words,
-        to: words + 4 * wide(s[at + 4]),
+        to: words + 4 * test_support::wide(s[at + 4]),
     }
 }
 
@@ -50,18 +44,6 @@ fn least(a: usize, b: usize) -> usize
     ensures { λ r. ⌜ (r ≤ a) × (r ≤ b) ⌝ }
 {
     if a < b { a } else { b }
-}
-
-// The first of coords become those that stand between two places.
-fn read_coords(s: &[u8], from: usize, to: usize, coords: &mut [f64])
-    requires { ⌜ (from ≤ to) × (to ≤ length (now s)) ⌝ }
-{
-    let n = least((to - from) / 8, coords.len());
-    let mut i = 0;
-    while i < n {
-        coords[i] = floats::le_f64(s, from + 8 * i);
-        i += 1;
-    }
 }
 
 // The words that stand between two places.
@@ -99,7 +81,8 @@ fn judge(s: &[u8], m: Parts) -> u8
     let e = least((m.words - m.ends) / 4, 65);
     let w = least((m.to - m.words) / 4, 65);
     let mut coords = [0.0f64; 196608];
-    read_coords(s, m.coords, m.kinds, &mut coords);
+    let k = least((m.kinds - m.coords) / 8, 196608);
+    test_support::read_coords(s, m.coords, &mut coords, k);
     let ends = words_of(s, m.ends, m.words);
     let words = words_of(s, m.words, m.to);
     refusal(s, m, &coords[0..n], &ends[0..e], &words[0..w])
@@ -113,10 +96,10 @@ fn judge_all(s: &[u8]) {
         let name = m.name;
         let coords = m.coords;
         if s.len() < m.to {
-            lines::tell(b"a model cut short", 255);
+            test_support::tell(b"a model cut short", 255);
             return;
         }
-        lines::tell(&s[name..coords], judge(s, m) as u64);
+        test_support::tell(&s[name..coords], judge(s, m) as u64);
         at = m.to;
     }
 }
@@ -125,7 +108,7 @@ fn judge_all(s: &[u8]) {
 fn fill(name: &[u8], list: usize, room: usize, flags: u8)
     requires { ⌜ (list ≤ 13) × (room ≤ 169) ⌝ }
 {
-    let c = lines::corners();
+    let c = nodes::corners();
     let words = [0u32, 1, 2, 3];
     let mut raw = [7u32; 13];
     let mut welded = [7u32; 13];
@@ -142,10 +125,10 @@ fn fill(name: &[u8], list: usize, room: usize, flags: u8)
         &mut work[0..room],
     );
     match r {
-        RingsAnswer::Refused(n) => lines::tell(name, n as u64),
+        RingsAnswer::Refused(n) => test_support::tell(name, n as u64),
         RingsAnswer::Words(n) => {
-            lines::say(name);
-            lines::tell(b" filled", n as u64);
+            test_support::say(name);
+            test_support::tell(b" filled", n as u64);
         }
     }
 }
@@ -163,7 +146,7 @@ fn fills() {
 
 pub fn run() {
     let mut buf = io::large_buffer();
-    let got = lines::read_file(b"limits", &mut buf);
+    let got = test_support::read_file(b"limits", &mut buf).size;
     judge_all(&buf[..got]);
     fills();
 }

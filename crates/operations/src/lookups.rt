@@ -1,6 +1,6 @@
 // The ring lookup, face owners and the area test on small models: rings, owners and refusals, 0 where there is none.
 ghost use Prim.Native.Nat.{_≤_};
-use crate::lines;
+use crate::nodes;
 use area::AreaAnswer;
 use mesh::Checks;
 use mesh::Counted;
@@ -12,13 +12,13 @@ fn wide(x: u32) -> u64 {
 
 // A line: a name and words.
 fn list(name: &[u8], words: &[u32]) {
-    lines::say(name);
+    test_support::say(name);
     let mut i = 0;
     while i < words.len() {
-        lines::say_number(b" ", wide(words[i]));
+        test_support::say_number(b" ", wide(words[i]));
         i += 1;
     }
-    lines::say(b"\n");
+    test_support::say(b"\n");
 }
 
 // ---- the ring lookup
@@ -53,7 +53,7 @@ fn refusal(len: usize, face: usize, flags: u8) -> u8
 {
     let raw = raw_list();
     let welded = welded_list();
-    let c = lines::corners();
+    let c = nodes::corners();
     let words = [0u32, 1, 2, 3];
     faces::ring_refusal(
         &c,
@@ -74,7 +74,7 @@ fn part(len: usize, which: RingList, face: usize, flags: u8)
 {
     let raw = raw_list();
     let welded = welded_list();
-    let c = lines::corners();
+    let c = nodes::corners();
     let words = [0u32, 1, 2, 3];
     let ring = faces::ring_lookup(
         &c,
@@ -95,7 +95,7 @@ fn part(len: usize, which: RingList, face: usize, flags: u8)
 fn look(name: &[u8], len: usize, which: RingList, face: usize, flags: u8)
     requires { ⌜ len ≤ 13 ⌝ }
 {
-    lines::tell(name, refusal(len, face, flags) as u64);
+    test_support::tell(name, refusal(len, face, flags) as u64);
     part(len, which, face, flags);
 }
 
@@ -125,7 +125,7 @@ fn looks() {
 
 // The owners of a face of a tetrahedron and of a PHED that holds one of its faces twice, in a lent list.
 fn own_in(name: &[u8], face: usize, lent: &mut [u32]) {
-    let c = lines::corners();
+    let c = nodes::corners();
     let words = [0u32, 1, 2, 3, 0, 1, 2, 4294967295, 2, 1, 0];
     let r = owners::face_owners(
         &c,
@@ -138,9 +138,9 @@ fn own_in(name: &[u8], face: usize, lent: &mut [u32]) {
         lent,
     );
     match r {
-        Counted::Refused(n) => lines::tell(name, n as u64),
+        Counted::Refused(n) => test_support::tell(name, n as u64),
         Counted::Count(n) => {
-            lines::say_number(b"held ", n as u64);
+            test_support::say_number(b"held ", n as u64);
             list(b" times by", lent);
         }
     }
@@ -169,14 +169,14 @@ fn owns() {
 fn test(name: &[u8], last: u32, many: usize, tol: f64)
     requires { ⌜ many ≤ 65 ⌝ }
 {
-    let c = lines::corners();
+    let c = nodes::corners();
     let mut nodes = [0u32; 65];
     nodes[1] = 1;
     nodes[2] = last;
     let r = area::area_test(&c, &nodes[0..many], tol);
     match r {
-        AreaAnswer::Refused(n) => lines::tell(name, n as u64),
-        AreaAnswer::Says(_) => lines::tell(name, 0),
+        AreaAnswer::Refused(n) => test_support::tell(name, n as u64),
+        AreaAnswer::Says(_) => test_support::tell(name, 0),
     }
 }
 

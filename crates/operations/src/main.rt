@@ -1,11 +1,9 @@
-// Runs operations on small inputs and prints what they answer: limits and refusals, lookups, model files.
-mod files;
+// Runs operations on small inputs and prints what they answer: limits and refusals, lookups.
 mod limits;
-mod lines;
 mod lookups;
+mod nodes;
 
 fn main() {
     limits::run();
     lookups::run();
-    files::run();
 }

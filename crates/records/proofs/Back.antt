@@ -38,7 +38,7 @@ fields-from s at =
 fields-front : (rest : List ℕ) (f : Fields) (p : Point) → Below 4294967296 f → fieldsIn (recordBytes f p ++ rest) 0 ≡ f
 unfolding fieldsIn recordBytes
 fields-front rest f p h =
-    λ i. record { kind = f .kind; first = number-bytes 4 (f .first) (h .first) i; second = number-bytes 4 (f .second) (h .second) i; a = number-bytes 4 (f .a) (h .a) i; b = number-bytes 4 (f .b) (h .b) i; count = number-bytes 4 (f .count) (h .count) i }
+    λ i. record { kind = f .kind; first = number-bytes 4 (f .first) (h .0) i; second = number-bytes 4 (f .second) (h .1) i; a = number-bytes 4 (f .a) (h .2) i; b = number-bytes 4 (f .b) (h .3) i; count = number-bytes 4 (f .count) (h .4) i }
 
 -- the fields read where a record's bytes stand are those it was written from
 pub fields-back : (s rest : List ℕ) (at : ℕ) (f : Fields) (p : Point) → drop at s ≡ recordBytes f p ++ rest → Below 4294967296 f → fieldsIn s at ≡ f

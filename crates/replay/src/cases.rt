@@ -46,7 +46,7 @@ fn name_of(n: usize, a: u8, b: u8, c: u8) -> [u8; 13] {
 // The file is s.
 fn is_file(name: &[u8], s: &[u8]) -> bool {
     let mut buf = [0u8; 65601];
-    let file = lent::read_file(name, &mut buf);
+    let file = test_support::read_file(name, &mut buf);
     let got = file.size;
     file.there & check::same(&buf[..got], s)
 }
@@ -54,7 +54,7 @@ fn is_file(name: &[u8], s: &[u8]) -> bool {
 // The file stands in front of s, and all behind it is as it was.
 fn is_front(name: &[u8], s: &[u8]) -> bool {
     let mut buf = [0u8; 65601];
-    let file = lent::read_file(name, &mut buf);
+    let file = test_support::read_file(name, &mut buf);
     let got = file.size;
     if s.len() < got {
         return false;
@@ -101,7 +101,7 @@ fn tell(n: usize, a: Agrees) {
 fn replay(n: usize, t: Tally) -> Tally {
     let name = name_of(n, b'i', b'n', b' ');
     let mut buf = io::large_buffer();
-    let file = lent::read_file(&name[0..12], &mut buf);
+    let file = test_support::read_file(&name[0..12], &mut buf);
     if !file.there {
         return t;
     }
@@ -110,10 +110,10 @@ fn replay(n: usize, t: Tally) -> Tally {
     let a = compared(n, &buf[..got], s.alike);
     tell(n, a);
     Tally {
-        cases: lent::more(t.cases, true),
-        outputs: lent::more(t.outputs, a.output),
-        records: lent::more(t.records, a.records),
-        ways: lent::more(t.ways, a.ways),
+        cases: test_support::more(t.cases, true),
+        outputs: test_support::more(t.outputs, a.output),
+        records: test_support::more(t.records, a.records),
+        ways: test_support::more(t.ways, a.ways),
         faces: std::num::wrapping_add_u64(t.faces, s.faces),
     }
 }

@@ -1,33 +1,10 @@
-// What both replays use: a run on lent lists, marked bytes, a count, and a file.
+// What both replays use: a run on lent lists, and marked bytes.
 ghost use mathlib.Core.Path.{_≡_};
 ghost use Prim.Native.Nat.{_≤_};
 ghost use lib.ListN.{length};
-ghost use Rattle.io.specs.Counts.{Counts};
 
 // What every lent finding byte holds before a run.
 pub const MARK: u8 = 170;
-
-// Whether a file is there, and how many of its bytes were read.
-pub struct File {
-    pub there: bool,
-    pub size: usize,
-}
-
-// Reads the file of that name to the front of buf, if there is one.
-pub fn read_file(name: &[u8], buf: &mut [u8]) -> File
-    ensures { λ r. ⌜ Counts (r .size) (now (buf .exit)) ⌝ }
-{
-    let fd = os::open_read(name);
-    if fd < 0 {
-        return File {
-            there: false,
-            size: 0,
-        };
-    }
-    let size = io::read_full(fd, buf);
-    libc::close(fd);
-    File { there: true, size }
-}
 
 // The program's run on one model's bytes, its lists lent here; answers how many bytes of out it filled.
 pub fn run_model(input: &[u8], findings: &mut [u8; 32768], out: &mut [u8; 65600]) -> usize
@@ -60,12 +37,4 @@ pub fn unmarked_from(s: &[u8], from: usize) -> bool {
         i += 1;
     }
     true
-}
-
-// One more where it holds.
-pub fn more(n: u64, holds: bool) -> u64 {
-    if holds {
-        return std::num::wrapping_add_u64(n, 1);
-    }
-    n
 }

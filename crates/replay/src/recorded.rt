@@ -76,18 +76,12 @@ fn same_records(ours: &[u8], theirs: &[u8]) -> bool {
 
 // ---- a model
 
-fn wide(b: u8) -> usize
-    ensures { λ r. ⌜ r < 256 ⌝ }
-{
-    b as usize
-}
-
 // The number in two bytes, the lower first.
 fn two(s: &[u8], at: usize) -> usize
     requires { ⌜ at + 2 ≤ length (now s) ⌝ }
     ensures { λ r. ⌜ r < 65536 ⌝ }
 {
-    wide(s[at]) + 256 * wide(s[at + 1])
+    test_support::wide(s[at]) + 256 * test_support::wide(s[at + 1])
 }
 
 // The entry at a place: the model file's length / 32 and the number of records in two bytes each, the model file, the records.
@@ -149,8 +143,8 @@ fn counted(t: Tally, s: ways::Sought) -> Tally {
         io::write_all(STDOUT_FILENO, b" differs\n");
     }
     Tally {
-        models: lent::more(t.models, true),
-        agree: lent::more(t.agree, s.alike),
+        models: test_support::more(t.models, true),
+        agree: test_support::more(t.agree, s.alike),
         faces: std::num::wrapping_add_u64(t.faces, s.faces),
     }
 }
@@ -180,7 +174,7 @@ fn replay(s: &[u8], before: Tally) -> Tally {
 fn replay_part(p: u8, t: Tally) -> Tally {
     let name = [b'p', b'a', b'r', b't', b'-', p];
     let mut buf = io::large_buffer();
-    let got = lent::read_file(&name, &mut buf).size;
+    let got = test_support::read_file(&name, &mut buf).size;
     replay(&buf[..got], t)
 }
 
@@ -216,21 +210,11 @@ fn name_end(s: &[u8], at: usize) -> usize
     requires { ⌜ at < length (now s) ⌝ }
     ensures { λ r. ⌜ (at < r) × (r ≤ length (now (s .entry))) ⌝ }
 {
-    let size = wide(s[at]);
+    let size = test_support::wide(s[at]);
     if s.len() - at <= size {
         return s.len();
     }
     at + 1 + size
-}
-
-// The line of a pin.
-fn tell(name: &[u8], agrees: bool) {
-    io::write_all(STDOUT_FILENO, name);
-    if agrees {
-        io::write_all(STDOUT_FILENO, b" agrees\n");
-    } else {
-        io::write_all(STDOUT_FILENO, b" differs\n");
-    }
 }
 
 // The pins of a list, a name and an entry each.
@@ -240,12 +224,12 @@ fn replay_pins(s: &[u8]) {
         let end = name_end(s, at);
         let e = entry_at(s, end);
         if e.to <= at {
-            tell(b"a pin cut short", false);
+            test_support::tell_agrees(b"a pin cut short", false);
             return;
         }
         let start = at + 1;
         let found = agrees(s, e);
-        tell(&s[start..end], found.alike);
+        test_support::tell_agrees(&s[start..end], found.alike);
         at = e.to;
     }
 }
@@ -254,6 +238,6 @@ fn replay_pins(s: &[u8]) {
 pub fn replay_all() {
     replay_parts();
     let mut buf = io::large_buffer();
-    let got = lent::read_file(b"pins", &mut buf).size;
+    let got = test_support::read_file(b"pins", &mut buf).size;
     replay_pins(&buf[..got]);
 }

@@ -22,8 +22,7 @@ spaced n = 32 ∷ decimal n
 -- kind, cells, a, b, count
 unfoldable pub lineOf : Fields → List ℕ
 lineOf f =
-    decimal (f .kind)
-    ++ (spaced (f .first) ++ (spaced (f .second) ++ (spaced (f .a) ++ (spaced (f .b) ++ (spaced (f .count) ++ (10 ∷ []))))))
+    decimal (f .kind) ++ (spaced (f .first) ++ (spaced (f .second) ++ (spaced (f .a) ++ (spaced (f .b) ++ (spaced (f .count) ++ (10 ∷ []))))))
 
 -- `total T kept K`
 unfoldable pub totalLine : ℕ → ℕ → List ℕ

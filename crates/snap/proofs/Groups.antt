@@ -1,19 +1,17 @@
 -- The groups: one node more, and what is taken of equal nodes.
-use Prim.Native.Nat.{ℕ, suc, _+_, _≤_, _<_}
+use Prim.Native.Nat.{ℕ, suc, _+_, _≤_, _<_, min}
 use mathlib.Core.Path.{_≡_, refl, sym, ap, _∙_}
 use mathlib.Core.Bool.{Bool, true, false, cond, _||_}
 use mathlib.Core.List.{List, [], _∷_, _++_}
 use mathlib.Core.Logic.{⊎-elim}
 use native.Mathlib.Numerals.{add-one}
 use native.Mathlib.Omega.{arith}
-use borrow.Author.Tests.{lt-ltb, le-ltb, ltb-true}
-use lib.Dec.{ltb}
 use lib.Ieee.{Float}
 use lib.ListN.{length, getD, set, length-set}
 use lib.Seq.{slice, slice-cons}
-use Rattle.laws.specs.Lists.{onlyIf, elem}
+use Rattle.laws.specs.Lists.{onlyIf, fold, elem}
 use Rattle.laws.proofs.Tests.{tested}
-use Rattle.snap.specs.Weld.{farOf, nearOf, takes, groups, spread, give, least, leastFrom}
+use Rattle.snap.specs.Weld.{farOf, nearOf, takes, groups, spread, give, least}
 use Rattle.laws.specs.Merging.{AllBelow}
 use Rattle.snap.proofs.Parts.{slice-none}
 
@@ -49,16 +47,16 @@ takes-none c t p taken l j e h = ap (takes c t p taken) (slice-none j e l h)
 
 module _ (l : List ℕ) (j e m : ℕ) (h : j < e) (b : e ≤ length l) where
   -- the next number, and those behind it
-  least-next : leastFrom m (slice j e l) ≡ leastFrom (cond (ltb (getD l j 0) m) (getD l j 0) m) (slice (j + 1) e l)
-  least-next = rw (add-one j) (ap (leastFrom m) (slice-cons j e l 0 h b))
+  least-next : fold min m (slice j e l) ≡ fold min (min m (getD l j 0)) (slice (j + 1) e l)
+  least-next = rw (add-one j) (ap (fold min m) (slice-cons j e l 0 h b))
 
   -- a smaller number is the least so far
-  pub least-down : getD l j 0 < m → leastFrom (getD l j 0) (slice (j + 1) e l) ≡ leastFrom m (slice j e l)
-  least-down k = sym (least-next ∙ rw (lt-ltb (getD l j 0) m k))
+  pub least-down : getD l j 0 < m → fold min (getD l j 0) (slice (j + 1) e l) ≡ fold min m (slice j e l)
+  least-down k = sym (least-next ∙ ap (λ (x : ℕ). fold min x (slice (j + 1) e l)) (omega arith))
 
   -- another is not
-  pub least-kept : m ≤ getD l j 0 → leastFrom m (slice (j + 1) e l) ≡ leastFrom m (slice j e l)
-  least-kept k = sym (least-next ∙ rw (le-ltb (getD l j 0) m k))
+  pub least-kept : m ≤ getD l j 0 → fold min m (slice (j + 1) e l) ≡ fold min m (slice j e l)
+  least-kept k = sym (least-next ∙ ap (λ (x : ℕ). fold min x (slice (j + 1) e l)) (omega arith))
 
 -- ---- the same nodes taken, the same groups
 
@@ -99,13 +97,9 @@ module _ (c : List Float) (t : Float) (size : ℕ) where
       go false false false r = omega arith
 
 -- the least is at most the first
-pub least-low : (m : ℕ) (ns : List ℕ) → leastFrom m ns ≤ m
+pub least-low : (m : ℕ) (ns : List ℕ) → fold min m ns ≤ m
 least-low m [] = omega arith
-least-low m (n ∷ ns) = go (ltb n m) refl (least-low n ns) (least-low m ns)
-  where
-    go : (b : Bool) → ltb n m ≡ b → leastFrom n ns ≤ n → leastFrom m ns ≤ m → leastFrom (cond b n m) ns ≤ m
-    go true e p q = omega (arith, ltb-true n m e)
-    go false e p q = q
+least-low m (n ∷ ns) = omega (arith, least-low (min m n) ns)
 
 -- ---- lengths of maps
 

@@ -1,11 +1,11 @@
 -- Welded numbers (`duplicates_dim_n`), over a list of node numbers.
-use Prim.Native.Nat.{ℕ}
+use Prim.Native.Nat.{ℕ, min}
 use mathlib.Core.Bool.{Bool, true, false, cond, _||_}
 use mathlib.Core.List.{List, [], _∷_, _++_}
-use lib.Dec.{leb, ltb}
+use lib.Dec.{leb}
 use lib.ListN.{getD, set}
 use lib.Ieee.{Float, binary64, sub, mul, lt, le, eq}
-use Rattle.laws.specs.Lists.{onlyIf, elem, sort, upFrom}
+use Rattle.laws.specs.Lists.{onlyIf, fold, elem, sort, upFrom}
 use Rattle.floats.specs.Floats.{zero64}
 use Rattle.geometry.specs.declared.Point.{Point}
 use Rattle.geometry.specs.Points.{pointSub, pointDot, pointAt}
@@ -51,24 +51,18 @@ groups c t taken (n ∷ ns) =
 
 -- ---- the map
 
-abbrev pub leastFrom : ℕ → List ℕ → ℕ
-leastFrom m [] = m
-leastFrom m (n ∷ ns) = leastFrom (cond (ltb n m) n m) ns
-
 -- a group's smallest number
 abbrev pub least : List ℕ → ℕ
 least [] = 0
-least (n ∷ ns) = leastFrom n ns
+least (n ∷ ns) = fold min n ns
 
 -- l with m at each of the places
 abbrev pub give : ℕ → List ℕ → List ℕ → List ℕ
-give m [] l = l
-give m (n ∷ ns) l = give m ns (set l n m)
+give m ns l = fold (λ k n. set k n m) l ns
 
 -- all of a group get its smallest number
 abbrev pub spread : List (List ℕ) → List ℕ → List ℕ
-spread [] l = l
-spread (g ∷ gs) l = spread gs (give (least g) g l)
+spread gs l = fold (λ k g. give (least g) g k) l gs
 
 -- the welded numbers of `size` nodes, of which those of `nodes` are welded; with tolerance 0 (or -0) each node itself
 unfoldable pub welded : List Float → Float → ℕ → List ℕ → List ℕ

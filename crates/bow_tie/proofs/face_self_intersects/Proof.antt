@@ -3,14 +3,15 @@ use mathlib.Core.Path.{_≡_, sym, _∙_}
 use Prim.Native.Nat.{_-_, _≤_}
 use lib.ListN.{length}
 use borrow.Author.Needs.{needs}
-use Rattle.bow_tie.specs.BowTie.{anyFrom, laterMeets, bowTieOf}
+use Rattle.laws.specs.Lists.{any, upFrom}
+use Rattle.bow_tie.specs.BowTie.{laterMeets, bowTieOf}
 use Rattle.geometry.specs.Points.{pointsOf}
 use Rattle.bow_tie.proofs.Sought.{any-skip, any-found, any-end, short, whole}
 use Rattle.bow_tie.proofs.face_self_intersects.Statement.{statement}
 use Rattle.bow_tie.proofs.face_self_intersects.Tie as tie
 
 abbrev Inv-loop : tie.InvT-loop
-Inv-loop coords ring tol eps i₀ i = (i ≤ length ring) × (anyFrom (laterMeets eps (pointsOf coords ring)) (length ring - i) i ≡ bowTieOf tol (pointsOf coords ring))
+Inv-loop coords ring tol eps i₀ i = (i ≤ length ring) × (any (laterMeets eps (pointsOf coords ring)) (upFrom i (length ring - i)) ≡ bowTieOf tol (pointsOf coords ring))
 
 abbrev μ-loop : tie.MeasureT-loop
 μ-loop coords ring tol eps i₀ i = length ring - i

@@ -2,15 +2,16 @@
 use Prim.Native.Nat.{_-_}
 use mathlib.Core.Path.{_≡_, sym, _∙_}
 use lib.ListN.{length}
+use Rattle.laws.specs.Lists.{any, upFrom}
 use Rattle.geometry.specs.Points.{pointsOf}
-use Rattle.bow_tie.specs.BowTie.{anyFrom, pairMeets, laterMeets}
+use Rattle.bow_tie.specs.BowTie.{pairMeets, laterMeets}
 use Rattle.bow_tie.proofs.Sought.{any-skip, any-found, any-end, later}
 use borrow.Author.Needs.{needs}
 use Rattle.bow_tie.proofs.later_meets.Statement.{statement}
 use Rattle.bow_tie.proofs.later_meets.Tie as tie
 
 abbrev Inv-loop : tie.InvT-loop
-Inv-loop coords ring eps i a b j₀ j = anyFrom (pairMeets eps (pointsOf coords ring) i) (length ring - j) j ≡ laterMeets eps (pointsOf coords ring) i
+Inv-loop coords ring eps i a b j₀ j = any (pairMeets eps (pointsOf coords ring) i) (upFrom j (length ring - j)) ≡ laterMeets eps (pointsOf coords ring) i
 
 abbrev μ-loop : tie.MeasureT-loop
 μ-loop coords ring eps i a b j₀ j = length ring - j

@@ -6,14 +6,15 @@ use native.Mathlib.Omega.{arith}
 use lib.Seq.{drop-cons}
 use lib.ListN.{length, drop, drop-of-length-le}
 use borrow.Author.Needs.{needs}
+use Rattle.laws.specs.Lists.{fold}
 use Rattle.floats.proofs.Constants.{zero-bits}
-use Rattle.geometry.specs.Points.{pointsOf, sumFrom, origin, centreOf, pointScale, share}
+use Rattle.geometry.specs.Points.{pointsOf, pointAdd, origin, centreOf, pointScale, share}
 use Rattle.geometry.proofs.Listed.{points-length}
 use Rattle.geometry.proofs.key_centroid.Statement.{statement}
 use Rattle.geometry.proofs.key_centroid.Tie as tie
 
 abbrev Inv-loop : tie.InvT-loop
-Inv-loop coords nodes s₀ i₀ s i = (i ≤ length nodes) × (sumFrom s (pointsOf coords (drop i nodes)) ≡ sumFrom origin (pointsOf coords nodes))
+Inv-loop coords nodes s₀ i₀ s i = (i ≤ length nodes) × (fold pointAdd s (pointsOf coords (drop i nodes)) ≡ fold pointAdd origin (pointsOf coords nodes))
 
 abbrev μ-loop : tie.MeasureT-loop
 μ-loop coords nodes s₀ i₀ s i = length nodes - i

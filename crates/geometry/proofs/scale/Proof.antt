@@ -4,15 +4,16 @@ use Prim.Native.Nat.{_≤_, _<_, _-_}
 use native.Mathlib.Omega.{arith}
 use lib.ListN.{length, drop}
 use borrow.Author.Needs.{needs}
+use Rattle.laws.specs.Lists.{fold}
 use Rattle.floats.proofs.Constants.{one-bits}
 use Rattle.geometry.specs.Points.{pointsOf}
-use Rattle.geometry.specs.Scale.{scaleFrom, scaleOf}
+use Rattle.geometry.specs.Scale.{largestOf, scaleOf}
 use Rattle.geometry.proofs.Listed.{points-next, points-end}
 use Rattle.geometry.proofs.scale.Statement.{statement}
 use Rattle.geometry.proofs.scale.Tie as tie
 
 abbrev Inv-loop : tie.InvT-loop
-Inv-loop coords nodes m₀ i₀ m i = (i ≤ length nodes) × (scaleFrom m (pointsOf coords (drop i nodes)) ≡ scaleOf (pointsOf coords nodes))
+Inv-loop coords nodes m₀ i₀ m i = (i ≤ length nodes) × (fold largestOf m (pointsOf coords (drop i nodes)) ≡ scaleOf (pointsOf coords nodes))
 
 abbrev μ-loop : tie.MeasureT-loop
 μ-loop coords nodes m₀ i₀ m i = length nodes - i

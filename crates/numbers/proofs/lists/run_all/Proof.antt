@@ -17,23 +17,23 @@ loop-holds c = search needs
 entry-at-requires : tie.Need-entry-at-requires Inv-loop μ-loop
 entry-at-requires c κs = search needs
 
-slice-aggregate-tell : tie.Need-slice-aggregate-tell Inv-loop μ-loop
-slice-aggregate-tell c = search needs
+slice-aggregate-tell-agrees : tie.Need-slice-aggregate-tell-agrees Inv-loop μ-loop
+slice-aggregate-tell-agrees c = search needs
 
-tell-requires : tie.Need-tell-requires Inv-loop μ-loop
-tell-requires c κs = search needs
+tell-agrees-requires : tie.Need-tell-agrees-requires Inv-loop μ-loop
+tell-agrees-requires c κs = search needs
 
 returns : tie.Need-returns Inv-loop μ-loop
 returns c = search needs
 
-sub-tell : tie.Need-sub-tell Inv-loop μ-loop
-sub-tell c = search needs
+sub-tell-agrees : tie.Need-sub-tell-agrees Inv-loop μ-loop
+sub-tell-agrees c = search needs
 
-part-tell-start : tie.Need-part-tell-start Inv-loop μ-loop
-part-tell-start c = search needs
+part-tell-agrees-start : tie.Need-part-tell-agrees-start Inv-loop μ-loop
+part-tell-agrees-start c = search needs
 
-part-tell-end : tie.Need-part-tell-end Inv-loop μ-loop
-part-tell-end c = search needs
+part-tell-agrees-end : tie.Need-part-tell-agrees-end Inv-loop μ-loop
+part-tell-agrees-end c = search needs
 
 sub-agrees : tie.Need-sub-agrees Inv-loop μ-loop
 sub-agrees c = search needs
@@ -47,8 +47,8 @@ part-agrees-end c = search needs
 agrees-requires : tie.Need-agrees-requires Inv-loop μ-loop
 agrees-requires c κs = search needs
 
-tell-requires-2 : tie.Need-tell-requires-2 Inv-loop μ-loop
-tell-requires-2 c κs = search needs
+tell-agrees-requires-2 : tie.Need-tell-agrees-requires-2 Inv-loop μ-loop
+tell-agrees-requires-2 c κs = search needs
 
 loop-less : tie.Need-loop-less Inv-loop μ-loop
 loop-less c = search needs
@@ -67,17 +67,17 @@ run-all-spec =
     μ-loop
     loop-holds
     entry-at-requires
-    slice-aggregate-tell
-    tell-requires
+    slice-aggregate-tell-agrees
+    tell-agrees-requires
     returns
-    sub-tell
-    part-tell-start
-    part-tell-end
+    sub-tell-agrees
+    part-tell-agrees-start
+    part-tell-agrees-end
     sub-agrees
     part-agrees-start
     part-agrees-end
     agrees-requires
-    tell-requires-2
+    tell-agrees-requires-2
     loop-less
     loop-again
     returns-2)

@@ -25,6 +25,12 @@ sub-least-2 c = search needs
 least-requires-3 : tie.Need-least-requires-3
 least-requires-3 c κs = search needs
 
+sub-least-3 : tie.Need-sub-least-3
+sub-least-3 c = search needs
+
+least-requires-4 : tie.Need-least-requires-4
+least-requires-4 c κs = search needs
+
 slice-aggregate-read-coords : tie.Need-slice-aggregate-read-coords
 slice-aggregate-read-coords c = search needs
 
@@ -84,6 +90,8 @@ judge-spec =
     least-requires-2
     sub-least-2
     least-requires-3
+    sub-least-3
+    least-requires-4
     slice-aggregate-read-coords
     read-coords-requires
     words-of-requires

@@ -1,18 +1,19 @@
 -- The least of m and what is left is the least of all.
+use Rattle.laws.specs.Lists.{fold}
 use Rattle.snap.proofs.Groups.{least-down, least-kept}
 use Rattle.snap.proofs.Parts.{slice-none}
-use Rattle.snap.specs.Weld.{leastFrom, least}
+use Rattle.snap.specs.Weld.{least}
 use native.Mathlib.Numerals.{add-one}
 use lib.Seq.{slice, slice-cons}
 use mathlib.Core.Path.{_≡_, _∙_}
-use Prim.Native.Nat.{_≤_, _<_, _-_}
+use Prim.Native.Nat.{_≤_, _<_, _-_, min}
 use native.Mathlib.Omega.{arith}
 use borrow.Author.Needs.{needs}
 use Rattle.snap.proofs.sweeping.least.Statement.{statement}
 use Rattle.snap.proofs.sweeping.least.Tie as tie
 
 abbrev Inv-loop : tie.InvT-loop
-Inv-loop work g e m₀ j₀ m j = (g < j) × (j ≤ e) × (leastFrom m (slice j e work) ≡ least (slice g e work))
+Inv-loop work g e m₀ j₀ m j = (g < j) × (j ≤ e) × (fold min m (slice j e work) ≡ least (slice g e work))
 
 abbrev μ-loop : tie.MeasureT-loop
 μ-loop work g e m₀ j₀ m j = e - j

@@ -1,7 +1,7 @@
 use Prim.Native.Nat.{_≤_, _-_}
 use borrow.Author.Needs.{needs}
-use Rattle.operations.proofs.files.all_published.Statement.{statement}
-use Rattle.operations.proofs.files.all_published.Tie as tie
+use Rattle.model_files.proofs.all_published.Statement.{statement}
+use Rattle.model_files.proofs.all_published.Tie as tie
 
 abbrev Inv-loop : tie.InvT-loop
 Inv-loop n₀ n = n ≤ 65536

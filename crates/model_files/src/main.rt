@@ -1,7 +1,6 @@
 // Published and damaged model files, read, and written back where they are accepted: what came of each.
 // tools/model_files.py gives what must be printed, by a reading of its own.
 ghost use Prim.Native.Nat.{_<_};
-use crate::lines;
 use model_file::Found;
 use model_file::ReadAnswer;
 use model_file::WriteAnswer;
@@ -148,28 +147,28 @@ fn trial(s: &[u8]) -> Outcome {
 
 // What was read.
 fn say_counts(t: Outcome) {
-    lines::say_number(b" nodes ", t.nodes as u64);
-    lines::say_number(b" cells ", t.cells as u64);
-    lines::say_number(b" words ", t.words as u64);
-    lines::say_number(b" sum ", t.sum);
+    test_support::say_number(b" nodes ", t.nodes as u64);
+    test_support::say_number(b" cells ", t.cells as u64);
+    test_support::say_number(b" words ", t.words as u64);
+    test_support::say_number(b" sum ", t.sum);
 }
 
 // What came of writing it back.
 fn say_written(t: Outcome) {
     if t.write != 0 {
-        lines::tell(b" not written", t.write as u64);
+        test_support::tell(b" not written", t.write as u64);
         return;
     }
     if t.same {
-        lines::say(b" the same\n");
+        test_support::say(b" the same\n");
         return;
     }
-    lines::say(b" DIFFERENT\n");
+    test_support::say(b" DIFFERENT\n");
 }
 
 fn say_outcome(t: Outcome) {
     if t.read != 0 {
-        lines::tell(b" refused", t.read as u64);
+        test_support::tell(b" refused", t.read as u64);
         return;
     }
     say_counts(t);
@@ -222,14 +221,13 @@ fn published(n: usize) {
         b'i',
         b'n',
     ];
-    let fd = os::open_read(&name);
-    if fd < 0 {
+    let mut buf = io::large_buffer();
+    let file = test_support::read_file(&name, &mut buf);
+    if !file.there {
         return;
     }
-    let mut buf = io::large_buffer();
-    let got = io::read_full(fd, &mut buf);
-    libc::close(fd);
-    lines::say(&name);
+    let got = file.size;
+    test_support::say(&name);
     say_outcome(trial(&buf[..got]));
 }
 
@@ -249,7 +247,7 @@ fn changed(b: u8, by: u8) -> u8 {
 
 fn say_letter(t: Outcome) {
     let text = [letter(t)];
-    lines::say(&text);
+    test_support::say(&text);
 }
 
 // Byte p of s changed for one trial.
@@ -262,7 +260,7 @@ fn damage(s: &mut [u8], p: usize, by: u8) {
     say_letter(trial(s));
     s[p] = b;
     if p % 32 == 31 {
-        lines::say(b"\n");
+        test_support::say(b"\n");
     }
 }
 
@@ -290,7 +288,7 @@ fn cut_all(s: &[u8]) {
         cut(s, 32 * n);
         n += 1;
     }
-    lines::say(b"\n");
+    test_support::say(b"\n");
 }
 
 fn damages(s: &mut [u8]) {
@@ -303,12 +301,12 @@ fn damages(s: &mut [u8]) {
 fn damaged() {
     let mut buf = io::large_buffer();
     let name = b"good.in";
-    let got = lines::read_file(name, &mut buf);
-    lines::say(name);
+    let got = test_support::read_file(name, &mut buf).size;
+    test_support::say(name);
     damages(&mut buf[..got]);
 }
 
-pub fn run() {
+fn main() {
     all_published();
     damaged();
 }

@@ -1,7 +1,7 @@
 use Prim.Native.Nat.{_≤_, _-_}
 use borrow.Author.Needs.{needs}
-use Rattle.operations.proofs.files.cut_all.Statement.{statement}
-use Rattle.operations.proofs.files.cut_all.Tie as tie
+use Rattle.model_files.proofs.cut_all.Statement.{statement}
+use Rattle.model_files.proofs.cut_all.Tie as tie
 
 abbrev Inv-loop : tie.InvT-loop
 Inv-loop s n₀ t3 n = n ≤ 65536

@@ -1,8 +1,8 @@
 use Prim.Native.Nat.{_<_, _-_}
 use lib.ListN.{length}
 use borrow.Author.Needs.{needs}
-use Rattle.operations.proofs.files.sum_of.Statement.{statement}
-use Rattle.operations.proofs.files.sum_of.Tie as tie
+use Rattle.model_files.proofs.sum_of.Statement.{statement}
+use Rattle.model_files.proofs.sum_of.Tie as tie
 
 abbrev Inv-loop : tie.InvT-loop
 Inv-loop l start sum₀ i₀ sum i = sum < 4294967296

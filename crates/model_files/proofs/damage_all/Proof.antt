@@ -2,8 +2,8 @@ use Prim.Native.Nat.{_≤_, _-_}
 use mathlib.Core.Path.{_≡_}
 use lib.ListN.{length}
 use borrow.Author.Needs.{needs}
-use Rattle.operations.proofs.files.damage_all.Statement.{statement}
-use Rattle.operations.proofs.files.damage_all.Tie as tie
+use Rattle.model_files.proofs.damage_all.Statement.{statement}
+use Rattle.model_files.proofs.damage_all.Tie as tie
 
 abbrev Inv-loop : tie.InvT-loop
 Inv-loop s₀ by p₀ s p = (p ≤ 65536) × (length s ≡ length s₀)

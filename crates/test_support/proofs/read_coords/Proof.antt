@@ -1,16 +1,16 @@
--- Each turn reads within the set and writes within the list.
+-- Each turn reads within the bytes and writes within the list.
 use Prim.Native.Nat.{_≤_, _-_}
 use mathlib.Core.Path.{_≡_}
 use borrow.Author.Needs.{needs}
 use lib.ListN.{length}
-use Rattle.numbers.proofs.bytes.read_coords.Statement.{statement}
-use Rattle.numbers.proofs.bytes.read_coords.Tie as tie
+use Rattle.test_support.proofs.read_coords.Statement.{statement}
+use Rattle.test_support.proofs.read_coords.Tie as tie
 
 abbrev Inv-loop : tie.InvT-loop
-Inv-loop s coords₀ n i₀ coords i = (i ≤ n) × (length coords ≡ length coords₀)
+Inv-loop s from coords₀ n i₀ coords i = (i ≤ n) × (length coords ≡ length coords₀)
 
 abbrev μ-loop : tie.MeasureT-loop
-μ-loop s coords₀ n i₀ coords i = n - i
+μ-loop s from coords₀ n i₀ coords i = n - i
 
 loop-holds : tie.Need-loop-holds Inv-loop μ-loop
 loop-holds c = search needs
