@@ -73,7 +73,7 @@ part-refusal-end-3 c = search needs
 refusal-requires : tie.Need-refusal-requires
 refusal-requires c κs =
     let s = c .before .before .before .before .before .before .before .before .before in
-    let p = s .before .before .before .before .before .before .before .before .before .before .pre in
+    let p = s .before .before .before .before .before .before .before .before .before .before .before .before .pre in
     (p .0 .0, omega (arith, p .0 .1, p .0 .2), p .1 .0, omega (arith, p .1 .1, p .1 .2, p .1 .3))
 
 returns : tie.Need-returns
