@@ -46,8 +46,8 @@ expect() {
             fi
         done
         case $line in
-        *' cases: '*) line='0 cases: 0 outputs and 0 records agree' ;;
-        *' models: '*) line='0 models: 0 agree' ;;
+        *' cases: '*) line='0 cases: 0 outputs and 0 records agree, 0 by either way; 0 faces sought each way' ;;
+        *' models: '*) line='0 models: 0 agree, by either way; 0 faces sought each way' ;;
         esac
         echo "$line" >&3
     done <"../../crates/$program/stdout" 3>"crates/$program/stdout"
