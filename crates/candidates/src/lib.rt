@@ -1,5 +1,5 @@
-// The candidates of one face of a model, by common nodes or by node triples. The check seeks them so for each face; the promise does not
-// name the way, so both ways give one list: the definition's.
+// The candidates of one face of a model, by common nodes or by node triples, as the check seeks them for each face. What is found is the
+// definition's list whichever way is asked for, and the search itself tells which was taken.
 ghost use mathlib.Core.Path.{_≡_};
 ghost use Prim.Native.Nat.{_^_, _≤_, _<_};
 ghost use lib.ListN.{length, take};
@@ -7,10 +7,29 @@ ghost use lib.Seq.{sets};
 ghost use Rattle.mesh.specs.Model.{Model, modelOf};
 ghost use Rattle.mesh.specs.Acceptance.{modelRefusal, facesIn, workNeeded};
 ghost use Rattle.mesh.specs.Steps.{ModelCounted};
+ghost use Rattle.mesh.specs.declared.Counted.the-variants.{Refused};
+ghost use Rattle.seek.specs.Candidates.{foundIn, wentByNodes};
 ghost use Rattle.candidates.specs.Seeking.{candidatesOf, Seeking};
 use mesh::Counted;
 
-// The candidates of a face of an accepted model, as many as fit; answers how many there are. t is what its acceptance counted.
+// What seeking the candidates of a face answers, and by which way it was sought.
+pub struct SoughtFace {
+    pub answer: Counted,
+    pub tally: seek::Tally,
+}
+
+// A refusal: nothing was sought.
+fn refused(n: u8) -> SoughtFace
+    ensures { λ r. ⌜ (r .answer ≡ Refused n) × (r .tally .nodes ≡ 0) × (r .tally .triples ≡ 0) ⌝ }
+{
+    let tally = seek::unsought();
+    SoughtFace {
+        answer: Counted::Refused(n),
+        tally: tally,
+    }
+}
+
+// The candidates of a face of an accepted model, as many as fit; answers how many there are, and the way. t is what its acceptance counted.
 fn seek_into(
     coords: &[f64],
     kinds: &[u8],
@@ -23,13 +42,13 @@ fn seek_into(
     found: &mut [u32],
     work: &mut [u32],
     t: mesh::CellTally,
-) -> usize
+) -> seek::Searched
     ghost { Model }
     requires { λ m. ⌜ modelOf (now coords) (now kinds) (now ends) (now words) tol (checks .0) 0 ≡ m ⌝ }
     requires { λ m. ⌜ (modelRefusal m ≡ 0) × ModelCounted m t × (workNeeded m ≤ length (now work)) ⌝ }
     requires { λ m. ⌜ face < length (facesIn m) ⌝ }
-    ensures { λ m n. ⌜ (n ≡ length (candidatesOf m face)) × (n < 2 ^ 32) ⌝ }
-    ensures { λ m n. ⌜ now (found .exit) ≡ sets (now (found .entry)) 0 (take (length (now (found .entry))) (candidatesOf m face)) ⌝ }
+    ensures { λ m r. ⌜ (foundIn r ≡ length (candidatesOf m face)) × (foundIn r < 2 ^ 32) × (wentByNodes r ≡ «by_nodes») ⌝ }
+    ensures { λ m r. ⌜ now (found .exit) ≡ sets (now (found .entry)) 0 (take (length (now (found .entry))) (candidatesOf m face)) ⌝ }
 {
     let l = model_tables::build_tables(coords, kinds, ends, words, tol, checks, work, t);
     let s = indexes::index_faces(work, l);
@@ -41,7 +60,7 @@ fn seek_into(
     let from = at.found;
     let to = from + k;
     rings::put_words(&work[from..to], found, 0);
-    n
+    c
 }
 
 // The candidates of a face, sought by common nodes or by node triples: as many as fit, and the whole count.
@@ -56,21 +75,21 @@ pub fn face_candidates(
     by_nodes: bool,
     found: &mut [u32],
     work: &mut [u32],
-) -> Counted
-    ensures { λ r. ⌜ Seeking (modelOf (now (coords .entry)) (now (kinds .entry)) (now (ends .entry)) (now (words .entry)) tol (checks .0) 0) face (now (found .entry)) (now (found .exit)) (now (work .entry)) (now (work .exit)) r ⌝ }
+) -> SoughtFace
+    ensures { λ r. ⌜ Seeking «by_nodes» (modelOf (now (coords .entry)) (now (kinds .entry)) (now (ends .entry)) (now (words .entry)) tol (checks .0) 0) face (now (found .entry)) (now (found .exit)) (now (work .entry)) (now (work .exit)) r ⌝ }
 {
     let t = mesh::accept(coords, kinds, ends, words, tol, checks);
     if t.refusal != 0 {
-        return Counted::Refused(t.refusal);
+        return refused(t.refusal);
     }
     let need = mesh::work_needed(t, kinds.len(), coords.len() / 3, words.len());
     if work.len() < need {
-        return Counted::Refused(11);
+        return refused(11);
     }
     if t.faces <= face {
-        return Counted::Refused(12);
+        return refused(12);
     }
-    let n = seek_into(
+    let searched = seek_into(
         coords,
         kinds,
         ends,
@@ -84,5 +103,10 @@ pub fn face_candidates(
         t,
     );
     snap::clear(work, 0, need);
-    Counted::Count(n as u32)
+    let n = searched.count();
+    let tally = searched.tallied(seek::unsought());
+    SoughtFace {
+        answer: Counted::Count(n as u32),
+        tally: tally,
+    }
 }

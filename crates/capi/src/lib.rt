@@ -66,7 +66,7 @@ pub extern "C" fn lenoshale_check(
     ensures { λ r. ⌜ CheckExport (modelOf (now (coords .entry)) (now (kinds .entry)) (now (ends .entry)) (now (words .entry)) tolerance flags cap) (now (findings .entry)) (now (findings .exit)) (now (work .entry)) (now (work .exit)) (now (total .entry)) (now (total .exit)) (now (kept .entry)) (now (kept .exit)) r ⌝ }
 {
     let checks = mesh::Checks(flags);
-    let a = conformance::check(
+    let checked = conformance::check(
         coords,
         kinds,
         ends,
@@ -77,6 +77,7 @@ pub extern "C" fn lenoshale_check(
         findings,
         work,
     );
+    let a = checked.answer;
     match a {
         CheckAnswer::Refused(n) => n as u32,
         CheckAnswer::Report(t, k) => {

@@ -1,4 +1,4 @@
--- The demands, for the check itself: over its promise `Checking` and over nothing else. The rest of demand 3 is in findings/proofs/Demand3.
+-- The demands, for the check itself: over `Checking`, which its promise has for every way, and over nothing else. The rest of demand 3 is in findings/proofs/Demand3.
 use Prim.Native.Nat.{ℕ, _<_}
 use mathlib.Core.Path.{_≡_, sym, ap, _∙_}
 use mathlib.Core.Logic.{_≢_, _⊎_, inl, inr}

@@ -8,6 +8,7 @@ use lib.ListN.{length}
 use Rattle.mesh.specs.Model.{Model, contains, TOPOLOGY}
 use Rattle.mesh.specs.Acceptance.{facesIn}
 use Rattle.findings.specs.Check.{checkRefusal, Checking}
+use Rattle.seek.specs.Ways.{tallyOf}
 use Rattle.full_list.specs.declared.Choice.{Choice}
 use Rattle.full_list.specs.Ways.{goesByNodes}
 use Rattle.conformance.specs.declared.Checked.{Checked}
@@ -16,8 +17,7 @@ use Rattle.conformance.specs.declared.Checked.{Checked}
 unfoldable pub soughtFaces : Model → List ℕ → ℕ
 soughtFaces m work = cond (eqb (checkRefusal m work) 0 && contains (m .flags) TOPOLOGY) (length (facesIn m)) 0
 
--- The promise for every choice: the check's own, and all faces were sought by the way chosen.
+-- The promise for every choice: the check's own, and all faces were sought by the way chosen. The check's choice is the way that is less work.
 pub record CheckingBy (choice : Choice) (m : Model) (findings findings' work work' : List ℕ) (r : Checked) : Type 0 where
   pub checking : Checking m findings findings' work work' (r .answer)
-  pub soughtByNodes : r .tally .nodes ≡ cond (goesByNodes choice m) (soughtFaces m work) 0
-  pub soughtByTriples : r .tally .triples ≡ cond (goesByNodes choice m) 0 (soughtFaces m work)
+  pub sought : r .tally ≡ tallyOf (goesByNodes choice m) (soughtFaces m work)

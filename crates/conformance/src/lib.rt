@@ -1,8 +1,8 @@
 // The check of a model: refused with a number, or all findings counted and the first of them kept.
 ghost use mathlib.Core.Path.{_≡_};
 ghost use Rattle.mesh.specs.Model.{modelOf};
-ghost use Rattle.findings.specs.Check.{Checking};
 ghost use Rattle.findings.specs.declared.CheckAnswer.the-variants.{Refused};
+ghost use Rattle.full_list.specs.declared.Choice.the-variants.{LessWork};
 ghost use Rattle.conformance.specs.Ways.{CheckingBy};
 use full_list::Choice;
 
@@ -16,7 +16,7 @@ pub struct Checked {
 fn refused(n: u8) -> Checked
     ensures { λ r. ⌜ (r .answer ≡ Refused n) × (r .tally .nodes ≡ 0) × (r .tally .triples ≡ 0) ⌝ }
 {
-    let tally = full_list::unsought();
+    let tally = seek::unsought();
     Checked {
         answer: findings::CheckAnswer::Refused(n),
         tally: tally,
@@ -70,8 +70,8 @@ pub fn check_by(
     }
 }
 
-// Checks a model: its findings are counted, and the first records kept, as many as the cap and the lent bytes allow. The lent work
-// ends zero, as far as it was needed; a refusal changes nothing.
+// Checks a model: its findings are counted, and the first records kept, as many as the cap and the lent bytes allow. Pairs are sought by
+// the way that is less work, as the tally shows. The lent work ends zero, as far as it was needed; a refusal changes nothing.
 pub fn check(
     coords: &[f64],
     kinds: &[u8],
@@ -82,11 +82,11 @@ pub fn check(
     cap: u16,
     findings: &mut [u8],
     work: &mut [u32],
-) -> findings::CheckAnswer
-    ensures { λ r. ⌜ Checking (modelOf (now (coords .entry)) (now (kinds .entry)) (now (ends .entry)) (now (words .entry)) tol (checks .0) cap) (now (findings .entry)) (now (findings .exit)) (now (work .entry)) (now (work .exit)) r ⌝ }
+) -> Checked
+    ensures { λ r. ⌜ CheckingBy LessWork (modelOf (now (coords .entry)) (now (kinds .entry)) (now (ends .entry)) (now (words .entry)) tol (checks .0) cap) (now (findings .entry)) (now (findings .exit)) (now (work .entry)) (now (work .exit)) r ⌝ }
 {
     let choice = Choice::LessWork;
-    let c = check_by(
+    check_by(
         coords,
         kinds,
         ends,
@@ -97,6 +97,5 @@ pub fn check(
         choice,
         findings,
         work,
-    );
-    c.answer
+    )
 }

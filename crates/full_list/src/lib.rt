@@ -34,16 +34,6 @@ impl Choice {
     }
 }
 
-// No face was sought.
-pub fn unsought() -> seek::Tally
-    ensures { λ r. ⌜ (r .nodes ≡ 0) × (r .triples ≡ 0) ⌝ }
-{
-    seek::Tally {
-        nodes: 0,
-        triples: 0,
-    }
-}
-
 // Kind 1, where the flags ask for it.
 fn find_butterflies(
     checks: mesh::Checks,
@@ -132,7 +122,7 @@ pub fn find(
     if !checks.intersects(mesh::Checks::ALL) {
         return Counts {
             findings: 0,
-            tally: unsought(),
+            tally: seek::unsought(),
         };
     }
     let l = model_tables::build_tables(coords, kinds, ends, words, tol, checks, work, t);
@@ -140,7 +130,7 @@ pub fn find(
     if !checks.contains(mesh::Checks::TOPOLOGY) {
         return Counts {
             findings: n,
-            tally: unsought(),
+            tally: seek::unsought(),
         };
     }
     find_topology(

@@ -40,7 +40,7 @@ fn report_on(
     let k = 3 * f.nodes;
     let n = f.cells;
     let w = f.words;
-    let answer = conformance::check(
+    let checked = conformance::check(
         &coords[0..k],
         &kinds[0..n],
         &ends[0..n],
@@ -51,6 +51,7 @@ fn report_on(
         findings,
         work,
     );
+    let answer = checked.answer;
     put_answer(answer, findings, out)
 }
 

@@ -1,8 +1,9 @@
 -- Faces counted by the way in which they were sought.
 use Prim.Native.Nat.{ℕ, _+_, _≤_}
-use mathlib.Core.Path.{_≡_, subst}
+use mathlib.Core.Path.{_≡_, ap₂, subst}
 use mathlib.Core.Bool.{Bool, true, false}
 use native.Mathlib.Omega.{arith}
+use Rattle.seek.specs.Ways.{tallyOf}
 use Rattle.seek.specs.Candidates.{TalliedMore, Tallied}
 use Rattle.seek.specs.declared.Tally.{Tally}
 
@@ -32,3 +33,8 @@ tallied-as {by} {by′} {n} {n′} {t} {r} p q x =
 pub tallied-zero : (by : Bool) {n : ℕ} → n ≡ 0 → (t : Tally) → t .nodes ≡ 0 → t .triples ≡ 0 → Tallied by n t
 tallied-zero true e t p q = record { nodes = omega (arith, e, p); triples = omega (arith, q) }
 tallied-zero false e t p q = record { nodes = omega (arith, p); triples = omega (arith, e, q) }
+
+-- the tally of n faces is the definition's
+pub tally-is : (by : Bool) (n : ℕ) (t : Tally) → Tallied by n t → t ≡ tallyOf by n
+tally-is true n t p = ap₂ (λ (x y : ℕ). record { nodes = x; triples = y }) (omega (arith, p .nodes)) (omega (arith, p .triples))
+tally-is false n t p = ap₂ (λ (x y : ℕ). record { nodes = x; triples = y }) (omega (arith, p .nodes)) (omega (arith, p .triples))

@@ -25,6 +25,16 @@ pub struct Tally {
     pub triples: usize,
 }
 
+// No face was sought.
+pub fn unsought() -> Tally
+    ensures { λ r. ⌜ (r .nodes ≡ 0) × (r .triples ≡ 0) ⌝ }
+{
+    Tally {
+        nodes: 0,
+        triples: 0,
+    }
+}
+
 impl Searched {
     // How many candidates were found.
     pub fn count(self) -> usize

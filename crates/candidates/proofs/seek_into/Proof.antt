@@ -118,7 +118,7 @@ returns c =
     let n = foundIn (z .candidates-of .result) in
     let k = p .lesser .result in
     let same : l .at .found + k - l .at .found ≡ k = omega arith in (
-      (e ∙ number-is (model b) l (x .index-faces .last .0) v f n s (shows x) (low x) q, room p .1),
+      (number-is (model b) l (x .index-faces .last .0) v f n s (shows x) (low x) q, omega (arith, e, room p .1), z .candidates-of .ensures .0 .way),
       c .before .before .put-words .ensures
           ∙ ap (sets (b .args .found .now) 0) (ap (λ i. take i (drop (l .at .found) v)) same ∙ first-are (model b) l (x .index-faces .last .0) v f n s (shows x) (low x) q k (length (b .args .found .now)) (omega (arith, e, p .lesser .ensures))),
     )

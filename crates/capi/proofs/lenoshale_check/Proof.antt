@@ -28,7 +28,7 @@ returns c =
     let a = c .before .before .before .before .before .before .before .before .before .before .before .before .before .before .before .before .args in
     let m = modelOf (a .coords .now) (a .kinds .now) (a .ends .now) (a .words .now) (a .tolerance) (a .flags) (a .cap) in
     let k = c .before .before .before .before .before .before .before .check in
-    refused-so m (a .findings .now) (a .work .now) (a .total .now) (a .kept .now) _ (c .before .a .given .1) (k .ensures)
+    refused-so m (a .findings .now) (a .work .now) (a .total .now) (a .kept .now) _ (c .before .a .given .1) (k .ensures .checking)
 
 same-length-3 : tie.Need-same-length-3
 same-length-3 c = search needs
@@ -41,7 +41,7 @@ returns-2 c =
     let a = c .before .before .before .before .before .before .before .before .before .before .before .before .before .before .before .before .args in
     let m = modelOf (a .coords .now) (a .kinds .now) (a .ends .now) (a .words .now) (a .tolerance) (a .flags) (a .cap) in
     let k = c .before .before .before .before .before .before .before .check in
-    report-so m (a .findings .now) (a .work .now) (a .total .now) (a .kept .now) _ _ (c .before .a2 .given .1) (k .ensures)
+    report-so m (a .findings .now) (a .work .now) (a .total .now) (a .kept .now) _ _ (c .before .a2 .given .1) (k .ensures .checking)
 
 pub lenoshale-check-spec : {M : Type 1} → statement M
 lenoshale-check-spec =

@@ -19,12 +19,12 @@ model s =
     modelOf (take (3 * a .f .nodes) (a .coords .now)) (take (a .f .cells) (a .kinds .now)) (take (a .f .cells) (a .ends .now)) (take (a .f .words) (a .words .now)) (a .f .tolerance) (a .f .flags) (a .f .cap)
 
 -- what the check promises of it
-checked : (d : tie.After-check) → Checking (model (start d)) (start d .args .findings .now) (d .check .last .1 .1 .1 .1 .1 .1 .1 .0) (start d .args .work .now) (d .check .last .1 .1 .1 .1 .1 .1 .1 .1 .0) (d .check .result)
+checked : (d : tie.After-check) → Checking (model (start d)) (start d .args .findings .now) (d .check .last .1 .1 .1 .1 .1 .1 .1 .0) (start d .args .work .now) (d .check .last .1 .1 .1 .1 .1 .1 .1 .1 .0) (d .check .result .answer)
 checked d =
     let h = d .check in
     let a = start d .args in
     from-start (a .coords .now) (a .kinds .now) (a .ends .now) (a .words .now) (a .f .tolerance) (a .f .flags) (a .f .cap) (3 * a .f .nodes) (a .f .cells) (a .f .words) (a .findings .now) (h .last .1 .1 .1 .1 .1 .1 .1 .0) (a .work .now)
-    (h .last .1 .1 .1 .1 .1 .1 .1 .1 .0) (h .result) (h .ensures)
+    (h .last .1 .1 .1 .1 .1 .1 .1 .1 .0) (h .result .answer) (h .ensures .checking)
 
 mul-k : tie.Need-mul-k
 mul-k c = search needs
@@ -74,7 +74,7 @@ put-answer-requires c κs =
     let h = d .check in
     let s = start d in
     let a = s .args in (
-      keeps-of (model s) (a .findings .now) (h .last .1 .1 .1 .1 .1 .1 .1 .0) (a .work .now) (h .last .1 .1 .1 .1 .1 .1 .1 .1 .0) (h .result) (s .pre .1 .findingBytes) (checked d),
+      keeps-of (model s) (a .findings .now) (h .last .1 .1 .1 .1 .1 .1 .1 .0) (a .work .now) (h .last .1 .1 .1 .1 .1 .1 .1 .1 .0) (h .result .answer) (s .pre .1 .findingBytes) (checked d),
       s .pre .1 .outBytes,
     )
 
@@ -94,7 +94,7 @@ returns c =
     let h = d .check in
     let s = start d in
     let a = s .args in
-    reporting (model s) (a .findings .now) (h .last .1 .1 .1 .1 .1 .1 .1 .0) (a .work .now) (h .last .1 .1 .1 .1 .1 .1 .1 .1 .0) (s .pre .1 .findingBytes) (s .pre .1 .workWords) (h .result)
+    reporting (model s) (a .findings .now) (h .last .1 .1 .1 .1 .1 .1 .1 .0) (a .work .now) (h .last .1 .1 .1 .1 .1 .1 .1 .1 .0) (s .pre .1 .findingBytes) (s .pre .1 .workWords) (h .result .answer)
     (a .out .now) (p .last .1 .1 .0) (p .result) (checked d) (p .ensures .0) (p .ensures .1)
 
 pub report-on-spec : {M : Type 1} → statement M
