@@ -11,8 +11,8 @@
  *
  * A float that is read from a file or lent may be a NaN of any pattern: every NaN is taken for the one NaN. No accepted model has one.
  *
- * Stack, in bytes, the most that was measured on the largest models (tools/bench/stack.sh): run 191,304; check 5,896; face_owners 4,088;
- * area_test 3,768; root 3,544; fill_ring_lists 2,320; weld 2,112; each other function under 500. */
+ * Stack, in bytes, the most that was measured on the largest models (tools/bench/stack.sh): run 191,320; check 5,912; area_test 3,768;
+ * root 3,544; face_owners 2,488; fill_ring_lists 2,320; weld 2,224; each other function under 500. */
 #ifndef LENOSHALE_H
 #define LENOSHALE_H
 
@@ -24,8 +24,8 @@ extern "C" {
 #endif
 
 /* The interface that this header declares: another number where the arguments or the meaning of a function change. A program can hold
- * it against what lenoshale_version() answers of the library that it is linked with. */
-#define LENOSHALE_VERSION 1
+ * it against what lenoshale_version() answers of the library that it is linked with. Of 2: lenoshale_weld takes the cells. */
+#define LENOSHALE_VERSION 2
 
 /* kinds of cells, in the order in which they must stand, and the word that separates the rings of a PHED */
 #define LENOSHALE_TET4 1
@@ -131,10 +131,12 @@ uint32_t lenoshale_face_owners(const double *coords, size_t coords_len, const ui
                                size_t ends_len, const uint32_t *words, size_t words_len, double tolerance, uint8_t flags, size_t face,
                                uint32_t *owners, size_t owners_len, uint32_t *count);
 
-/* Writes the welded number of each node into the first words of map, a word a node; the first three words a node of scratch end zero.
- * Refuses with 5 (coordinates), 6, 7, then 4 if map is under one word a node or scratch under three. */
-uint32_t lenoshale_weld(const double *coords, size_t coords_len, double tolerance, uint32_t *map, size_t map_len, uint32_t *scratch,
-                        size_t scratch_len);
+/* Welds the nodes that some cell names, in a ring or in a run too short for one: writes the welded number of each node into the first
+ * words of map, a word a node. A loose node, which no cell names, keeps its own number and draws no others together. The first three
+ * words a node of scratch end zero. Refuses with 5 to 9, then 4 if map is under one word a node or scratch under three. */
+uint32_t lenoshale_weld(const double *coords, size_t coords_len, const uint8_t *kinds, size_t kinds_len, const uint32_t *ends,
+                        size_t ends_len, const uint32_t *words, size_t words_len, double tolerance, uint32_t *map, size_t map_len,
+                        uint32_t *scratch, size_t scratch_len);
 
 /* The area test on strictly ascending nodes, at most 64: its answer (LENOSHALE_AREA_..) to says. Refuses with 5, 6, 7, then 12. */
 uint32_t lenoshale_area_test(const double *coords, size_t coords_len, const uint32_t *nodes, size_t nodes_len, double tolerance,

@@ -1,10 +1,9 @@
 #!/usr/bin/env python3
-"""cases.py VECTORS: writes crates/report/proofs/Published.antt, twelve published cases for the definitions to compute.
+"""cases.py: writes crates/report/proofs/Published.antt, fourteen published cases for the definitions to compute.
 
-VECTORS is the folder of the published cases (case-XXXX.in, .out, .rec). In the table a case's input is numbers of 32 bytes,
+The cases are those of crates/replay/data (case-XXXX.in, .out, .rec). In the table a case's input is numbers of 32 bytes,
 its output one number, and its finding records are numbers of 64 bytes, all little-endian. Another case is a line of CASES."""
 import os
-import sys
 
 CASES = [
     ("0085", "kind 1: two hexahedra, both bow-ties; the flags ask for kind 1 alone"),
@@ -19,8 +18,10 @@ CASES = [
     ("0022", "refused while reading: 3, an unused word of the wedge, before the unknown letter of the last record"),
     ("0053", "refused while checking: 10, flags 4, the last reason of a model"),
     ("0063", "welding, tolerance 1: x = 0 leads and takes 0.75, not 1.5, for distance counts from the leader"),
+    ("1000", "order 1: loose node 0 lies between nodes 1 and 2 and would weld them; CONFORM"),
+    ("1002", "order 1: node 0, named in a dropped run alone, is welded"),
 ]
-HEAD = """-- Published cases, each with what it shows, computed by the definitions. Written by tools/cases.py; the program replay runs all 112.
+HEAD = """-- Published cases, each with what it shows, computed by the definitions. Written by tools/cases.py; the program replay runs all.
 use mathlib.Core.Path.{_≡_, refl}
 use mathlib.Core.Bool.{true}
 use mathlib.Core.List.{List, [], _∷_}
@@ -41,13 +42,13 @@ def numbers(data, size):
 
 
 def main():
-    vectors = sys.argv[1]
+    top = os.path.join(os.path.dirname(os.path.abspath(__file__)), "..")
+    vectors = os.path.join(top, "crates/replay/data")
     rows = []
     for case, shows in CASES:
         data = [open(os.path.join(vectors, "case-%s.%s" % (case, e)), "rb").read() for e in ("in", "out", "rec")]
         rows.append("    -- %s, %s\n    caseOf %d %s\n    %d %s\n    %s" % (
             case, shows, len(data[0]), numbers(data[0], 32), len(data[1]), number(data[1]), numbers(data[2], 64)))
-    top = os.path.join(os.path.dirname(os.path.abspath(__file__)), "..")
     with open(os.path.join(top, "crates/report/proofs/Published.antt"), "w") as out:
         out.write(HEAD + "\n    ∷\n".join(rows) + "\n    ∷ []\n\n")
         out.write("pub computed : allAgree cases ≡ true\nunfolding agrees\ncomputed = refl\n")

@@ -31,7 +31,7 @@ agrees() {
 }
 
 cases=0 c=0 rust=0 past=0
-for input in crates/replay/data/case-*.in examples/two_cells.in; do
+for input in crates/replay/data/*.in examples/two_cells.in; do
     cases=$((cases + 1))
     target/bin/lenoshale <"$input" >"$dir/expected"
     if limited "$input"; then past=$((past + 1)); fi

@@ -1,7 +1,7 @@
 #!/usr/bin/env bash
-# tools/wrong_readings.sh: shows that named tests tell wrong readings of document 01 from the right one. Each reading below is put into the
+# tools/wrong_readings.sh: shows that named tests tell wrong readings of document 01, and of order 1, from the right one. Each is put into the
 # code of a copy, unproved, and the programs named with it are run there by `rt try`: what one writes must be its `stdout`, but that the
-# tests named, three or more, say 'differs', these and no other. (The copy has no published cases and none of the 300 models: few of these show there.)
+# tests named, three or more, say 'differs', these and no other. (The copy has no published cases and none of the recorded models: few of these show there.)
 # The last line counts the readings that were told; the exit code is 1 if one was not.
 set -euo pipefail
 cd "$(dirname "${BASH_SOURCE[0]}")/.."
@@ -16,7 +16,7 @@ for crate in crates/*; do
 done
 cp -r crates/replay/data "$copy/crates/replay/"
 cp -r crates/numbers/data "$copy/crates/numbers/"
-rm "$copy"/crates/replay/data/case-* "$copy"/crates/replay/data/part-*
+find "$copy/crates/replay/data" -type f ! -name pins -delete
 cd "$copy"
 
 # edit FILE OLD NEW: puts NEW in the place of OLD, which must stand once in the file
@@ -83,6 +83,13 @@ reading() {
 meet=bow_tie/src/lib.rt
 area=area/src/lib.rt
 eps=geometry/src/lib.rt
+welding=welding/src/lib.rt
+# the word at i, which is w, is a separator or stands in a run of one or two words of the one cell that a node set has
+short_run='let first = i < 1 || words[i - 1] == mesh::SEPARATOR;
+        let second = i < 2 || words[i - 2] == mesh::SEPARATOR;
+        let last = i + 1 >= words.len() || words[i + 1] == mesh::SEPARATOR;
+        let next = i + 2 >= words.len() || words[i + 2] == mesh::SEPARATOR;
+        if w == mesh::SEPARATOR || first && (last || next) || second && last {'
 
 # nothing wrong, so nothing differs
 reading right $meet 'const TINY: f64 = 1e-12;' 'const TINY: f64 = 1e-12;' 'replay' 'numbers'
@@ -108,6 +115,9 @@ reading direction-longest $area 'if geometry::longer(d, eps) {' 'if geometry::do
 # the squared distance in welding: dx² + (dy² + dz²)
 reading sum-order snap/src/sweeping.rt 'geometry::dot(d, d) <= limit' 'd.x * d.x + (d.y * d.y + d.z * d.z) <= limit' \
     'numbers sum-order-*' 'replay sum-order-*'
+# loose nodes are welded too; and a node that stands only in a run of one or two words, which is no ring, is taken for loose
+reading loose-welded $welding 'if work[k + i] != 0 {' 'if work[k + i] < 2 {' 'numbers loose-*'
+reading dropped-loose $welding 'if w == mesh::SEPARATOR {' "$short_run" 'numbers dropped-* sum-order-welded-*'
 # the slack of a crossing's parameters
 reading tiny-1e-9 $meet 'const TINY: f64 = 1e-12;' 'const TINY: f64 = 1e-9;' 'replay tiny-1e-9-*'
 reading tiny-1e-3 $meet 'const TINY: f64 = 1e-12;' 'const TINY: f64 = 1e-3;' 'replay tiny-1e-* direction-equal-* slack-squared-short-*'

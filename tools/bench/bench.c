@@ -60,7 +60,7 @@ typedef struct {
 static const Case cases[] = {
     {"hexahedra", hexahedra, 0},           {"tetrahedra", tetrahedra, 0}, {"wedges", wedges, 0},  {"hub_pyramids", hub_pyramids, 1590},
     {"hub_tetrahedra", hub_tetrahedra, 0}, {"hub_rings", hub_rings, 0},   {"one_cell", one_cell, 0}, {"soup", soup, 10252},
-    {"tank", tank, 4064},
+    {"tank", tank, 4064},                  {"loose", loose, 0},
 };
 
 static const double tolerances[] = {0, 1e-6};

@@ -237,4 +237,17 @@ static void tank(void) {
     end_cell(LENOSHALE_PHED);
 }
 
+/* ---- 25 tetrahedra behind 65,435 loose nodes */
+
+/* No two loose nodes are within the tolerance, but every two are by their x: welding them too would compare each with each. */
+static void loose(void) {
+    const size_t used = 100;
+    for (size_t i = 0; i < NODES - used; i++) put_node(0, (double)(i % 256), (double)(i / 256));
+    for (size_t c = 0; c < used / 4; c++) {
+        double x = 2 * (double)c;
+        uint32_t t[4] = {put_node(x, 0, 0), put_node(x + 1, 0, 0), put_node(x, 1, 0), put_node(x, 0, 1)};
+        put_cell(LENOSHALE_TET4, t, 4);
+    }
+}
+
 #endif

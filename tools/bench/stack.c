@@ -24,7 +24,8 @@ static uint64_t nodes, cells, n, need, rings, faces;
 static size_t file_len;
 static unsigned char *stack;
 
-#define MODEL coords, 3 * nodes, kinds, cells, ends, cells, words, n, 1e-6, 3
+#define MESH coords, 3 * nodes, kinds, cells, ends, cells, words, n, 1e-6
+#define MODEL MESH, 3
 
 static void *call(void *which) {
     uint64_t a, b, c;
@@ -42,7 +43,7 @@ static void *call(void *which) {
     case 5: lenoshale_fill_ring_lists(MODEL, raw, rings, welded, rings, work, need, &k); break;
     case 6: lenoshale_ring_lookup(MODEL, raw, rings, welded, rings, faces - 1, &a, &b); break;
     case 7: lenoshale_face_owners(MODEL, 0, raw, rings, &k); break;
-    case 8: lenoshale_weld(coords, 3 * nodes, 1e-6, map, nodes, scratch, 3 * nodes); break;
+    case 8: lenoshale_weld(MESH, map, nodes, scratch, 3 * nodes); break;
     case 9: lenoshale_area_test(coords, 3 * nodes, three, 3, 1e-6, &k); break;
     case 10: lenoshale_root(2.0, &t); break;
     case 11: lenoshale_report(findings, sizeof findings, 100, 100, out, sizeof out, &a); break;

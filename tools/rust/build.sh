@@ -21,6 +21,7 @@ source_file() { # path below crates/mefikit/src, sha256
 mod=$(source_file tools/conformance/mod.rs ac73c53e9b4366e7cc92243a13568c7a785a35d9eb4a18e430e4037160220f45)
 snap=$(source_file tools/snap.rs 9453f26b8a32789918e4b5b7fc1dd2e52d8bab1df4c25c6adc4eb2172411f44a)
 slice=$(source_file tools/slice.rs eabd26f566c986e445b2a9aa072c788c3a2a27d331a00ff3d758cad2d89ac643)
+umesh=$(source_file mesh/umesh.rs c4569ee21068009e43931b334ef934974e4c21f2c82b9a38d2d68d5480589d30)
 
 # One top-level item, with its comments and attributes, byte for byte.
 take() { # file, how its first line begins
@@ -36,6 +37,15 @@ take() { # file, how its first line begins
         END { if (done != 1) { print "item found " done + 0 " times: " start > "/dev/stderr"; exit 1 } }
     ' "$1"
     echo
+}
+
+# One method, byte for byte: from its first line, indented by four, to the brace so indented that closes it.
+take_method() { # file, how its first line begins behind the indent
+    awk -v start="    $2" '
+        taking { print; if ($0 ~ /^    }$/) { taking = 0; done++ } next }
+        index($0, start) == 1 { print; taking = 1 }
+        END { if (done != 1) { print "method found " done + 0 " times: " start > "/dev/stderr"; exit 1 } }
+    ' "$1"
 }
 
 mkdir -p "$out"
@@ -56,6 +66,11 @@ mkdir -p "$out"
 take "$mod" 'pub fn is_conform_with(' >"$out/entry.rs"
 take "$snap" 'fn duplicates_dim_n<' >"$out/snap.rs"
 take "$slice" 'fn cell_faces(' >"$out/slice.rs"
+{
+    echo "impl UMeshView<'_> {"
+    take_method "$umesh" 'pub fn used_nodes(&self)'
+    echo "}"
+} >"$out/used_nodes.rs"
 
 # A second copy of the pair search, its choice of way asked for outside.
 take "$mod" 'fn partially_shared_faces(' |

@@ -10,7 +10,7 @@ use Rattle.mesh.specs.Acceptance.{endsOff}
 use Rattle.findings.specs.Findings.{Rules, Finding}
 use Rattle.findings.specs.Compared.{none}
 use Rattle.records.specs.Keeping.{Kept}
-use Rattle.repeats.specs.Marks.{nodesIn}
+use Rattle.mesh.specs.Rings.{nodesIn}
 use Rattle.layout.specs.declared.Layout.{Layout}
 use Rattle.layout.specs.ByCell.{repeatCell}
 

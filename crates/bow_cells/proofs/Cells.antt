@@ -14,7 +14,7 @@ use Rattle.laws.proofs.ListLaws.{length-upFrom, getD-upFrom}
 use Rattle.layout.specs.declared.Layout.{Layout}
 use Rattle.layout.specs.Tables.{firstOf}
 use Rattle.layout.specs.ByCell.{ringBow, cellBow}
-use Rattle.bow_cells.proofs.Welded.{map-more}
+use Rattle.welding.proofs.Through.{map-more}
 
 module _ (p : ℕ → Bool) (e g : ℕ) where
   -- one number more is tried

@@ -5,25 +5,10 @@ ghost use Prim.Native.Nat.{_+_, _≤_, _<_};
 ghost use lib.ListN.{length, take};
 ghost use lib.Seq.{sets};
 ghost use Rattle.laws.specs.Lists.{upFrom};
-ghost use Rattle.laws.specs.Merging.{region, AllBelow};
 ghost use Rattle.geometry.specs.Coordinates.{nodeCount};
-ghost use Rattle.snap.specs.Weld.{weldedBy};
 ghost use Rattle.layout.specs.Tables.{firstOf, Ringed};
 ghost use Rattle.layout.specs.ByCell.{ringBow, cellBow, bit};
 use layout::Layout;
-
-// Each of the words through the map of n nodes that stands in work from o on.
-fn put_welded(words: &[u32], work: &[u32], o: usize, n: usize, out: &mut [u32])
-    requires { ⌜ (length (now words) ≤ length (now out)) × AllBelow n (now words) × (o + n ≤ length (now work)) ⌝ }
-    ensures { λ _. ⌜ now (out .exit) ≡ sets (now (out .entry)) 0 (map (weldedBy (region o n (now (work .entry)))) (now (words .entry))) ⌝ }
-{
-    let mut i = 0;
-    while i < words.len() {
-        let k = counting::wide(words[i]);
-        out[i] = work[o + k];
-        i += 1;
-    }
-}
 
 // The ring of face g, in welded numbers, meets itself.
 fn ring_meets(coords: &[f64], tol: f64, work: &[u32], l: Layout, g: usize) -> bool
@@ -37,7 +22,7 @@ fn ring_meets(coords: &[f64], tol: f64, work: &[u32], l: Layout, g: usize) -> bo
     let end = l.rings + e;
     let n = end - start;
     let mut ring = [0u32; 64];
-    put_welded(&work[start..end], work, l.weld, p.nodes, &mut ring);
+    welding::put_welded(&work[start..end], work, l.weld, p.nodes, &mut ring);
     bow_tie::face_self_intersects(coords, &ring[0..n], tol)
 }
 

@@ -10,7 +10,7 @@ use Rattle.mesh.specs.Model.{Model}
 use Rattle.mesh.specs.Acceptance.{modelRefusal}
 use Rattle.mesh.specs.Steps.{ModelCounted}
 use Rattle.mesh.specs.declared.CellTally.{CellTally}
-use Rattle.ring_lists.proofs.Answers.{work-is}
+use Rattle.mesh.proofs.Accepted.{work-is}
 use Rattle.findings.specs.Check.{checkTold, Checking}
 use Rattle.findings.specs.declared.CheckAnswer.{CheckAnswer}
 use Rattle.findings.specs.declared.CheckAnswer.the-variants.{Refused, Report}

@@ -11,22 +11,23 @@ use Rattle.area.specs.AreaTest.{areaNumber, areaTold, areaAnswer}
 use Rattle.area.specs.declared.Area.{Area}
 use Rattle.area.specs.declared.AreaAnswer.{AreaAnswer}
 use Rattle.area.specs.declared.AreaAnswer.the-variants as Areas
-use Rattle.snap.specs.Welding.{weldRefusal, weldTold, Welding}
-use Rattle.snap.specs.declared.WeldAnswer.{WeldAnswer}
-use Rattle.snap.specs.declared.WeldAnswer.the-variants as Welds
+use Rattle.mesh.specs.Model.{Model}
+use Rattle.welding.specs.Welding.{weldRefusal, weldTold, Welding}
+use Rattle.welding.specs.declared.WeldAnswer.{WeldAnswer}
+use Rattle.welding.specs.declared.WeldAnswer.the-variants as Welds
 use Rattle.capi.specs.Nodes.{WeldExport, AreaExport, RootExport}
 use Rattle.capi.proofs.Told.{exported-refused, exported-done}
 
 -- ---- welding
 
-module _ (c : List Float) (t : Float) (map scratch : List ℕ) {map' scratch' : List ℕ} {r : WeldAnswer} (p : Welding c t map map' scratch scratch' r) where
-  pub weld-refused : (n : ℕ) → r ≡ Welds.Refused n → WeldExport c t map map' scratch scratch' n
+module _ (m : Model) (map scratch : List ℕ) {map' scratch' : List ℕ} {r : WeldAnswer} (p : Welding m map map' scratch scratch' r) where
+  pub weld-refused : (n : ℕ) → r ≡ Welds.Refused n → WeldExport m map map' scratch scratch' n
   weld-refused n e =
-      record { answered = answered-refused n (weldRefusal c t map scratch) tt (sym (ap weldTold e) ∙ p .answered) .0; memory = p .memory }
+      record { answered = answered-refused n (weldRefusal m map scratch) tt (sym (ap weldTold e) ∙ p .answered) .0; memory = p .memory }
 
-  pub weld-done : r ≡ Welds.Filled → WeldExport c t map map' scratch scratch' 0
+  pub weld-done : r ≡ Welds.Filled → WeldExport m map map' scratch scratch' 0
   weld-done e =
-      record { answered = sym (answered-done (weldRefusal c t map scratch) tt tt (sym (ap weldTold e) ∙ p .answered) .0); memory = p .memory }
+      record { answered = sym (answered-done (weldRefusal m map scratch) tt tt (sym (ap weldTold e) ∙ p .answered) .0); memory = p .memory }
 
 -- ---- area test
 

@@ -8,13 +8,14 @@ use Rattle.floats.specs.Root.{sqrt}
 use Rattle.floats.specs.RootAnswer.{rootTable}
 use Rattle.geometry.specs.Points.{pointsOf}
 use Rattle.area.specs.AreaTest.{areaOf, areaNumber, areaTable}
-use Rattle.snap.specs.Welding.{weldRefusal, WeldMemory}
+use Rattle.mesh.specs.Model.{Model}
+use Rattle.welding.specs.Welding.{weldRefusal, WeldMemory}
 use Rattle.capi.specs.Written.{Exported}
 
 -- Welding: 0 or the refusal's number; map and scratch as welding promises them.
-pub record WeldExport (c : List Float) (t : Float) (map map' scratch scratch' : List ℕ) (r : ℕ) : Type 0 where
-  pub answered : r ≡ weldRefusal c t map scratch
-  pub memory : WeldMemory c t map map' scratch scratch'
+pub record WeldExport (m : Model) (map map' scratch scratch' : List ℕ) (r : ℕ) : Type 0 where
+  pub answered : r ≡ weldRefusal m map scratch
+  pub memory : WeldMemory m map map' scratch scratch'
 
 -- Area test: 0 or the refusal's number; the number of what the test says.
 abbrev pub AreaExport : List Float → List ℕ → Float → ℕ → ℕ → ℕ → Type 0

@@ -1,23 +1,27 @@
 // Welded numbers, the area test and the root.
 ghost use mathlib.Core.Path.{_≡_};
 ghost use Rattle.area.specs.AreaTest.{areaNumber};
+ghost use Rattle.mesh.specs.Model.{modelOf};
 ghost use Rattle.capi.specs.Nodes.{WeldExport, AreaExport, RootExport};
 use area::Area;
 use area::AreaAnswer;
 use floats::Rooted;
-use snap::WeldAnswer;
+use welding::WeldAnswer;
 
-// Welds all nodes: the map gets their welded numbers.
+// Welds the nodes that cells name: the map gets the welded numbers of all nodes.
 #[no_mangle]
 pub extern "C" fn lenoshale_weld(
     coords: &[f64],
+    kinds: &[u8],
+    ends: &[u32],
+    words: &[u32],
     tolerance: f64,
     map: &mut [u32],
     scratch: &mut [u32],
 ) -> u32
-    ensures { λ r. ⌜ WeldExport (now (coords .entry)) tolerance (now (map .entry)) (now (map .exit)) (now (scratch .entry)) (now (scratch .exit)) r ⌝ }
+    ensures { λ r. ⌜ WeldExport (modelOf (now (coords .entry)) (now (kinds .entry)) (now (ends .entry)) (now (words .entry)) tolerance 0 0) (now (map .entry)) (now (map .exit)) (now (scratch .entry)) (now (scratch .exit)) r ⌝ }
 {
-    let a = snap::weld(coords, tolerance, map, scratch);
+    let a = welding::weld(coords, kinds, ends, words, tolerance, map, scratch);
     match a {
         WeldAnswer::Refused(n) => n as u32,
         WeldAnswer::Filled => 0,

@@ -9,7 +9,8 @@ use Rattle.laws.specs.Lists.{any, each, keep, upFrom}
 use Rattle.geometry.specs.Points.{pointsOf}
 use Rattle.area.specs.AreaTest.{areaOf, isSpans}
 use Rattle.bow_tie.specs.BowTie.{bowTieOf}
-use Rattle.snap.specs.Weld.{weldedBy, weldedAll}
+use Rattle.snap.specs.Weld.{weldedBy}
+use Rattle.welding.specs.Used.{usedNodes, weldsOf}
 use Rattle.mesh.specs.Model.{Model, Raw, contains, TOPOLOGY, cellsOf}
 use Rattle.mesh.specs.Rings.{ringsOf, numbered, sameKey}
 use Rattle.mesh.specs.Lookup.{faceAt}
@@ -30,7 +31,7 @@ use Rattle.mesh.proofs.Accepts.{accepts, accepted}
 use Rattle.findings.proofs.Moved.{moved-accepts, same-work, reordered-cells}
 use Rattle.findings.proofs.Same.{read-back}
 use Rattle.findings.proofs.Reorder.{reordering}
-use Rattle.findings.proofs.Models.{full-of, often, once, never, there, same-rules, same-findings, same-total, same-check, told-of, below-of, settled, same-form}
+use Rattle.findings.proofs.Models.{full-of, often, once, never, there, same-used, same-rules, same-findings, same-total, same-check, told-of, below-of, settled, same-form}
 use Rattle.findings.proofs.Kept.{record-64, kept-64, kept-fits, lent-length, report-is, same-answer, none-shared, all-kept}
 
 -- ---- the pairs
@@ -77,7 +78,7 @@ nodes-pass m ns = refl
 
 -- "A bow-tie is a cell as in kind 1": some ring, its nodes welded, crosses itself
 pub bow-ties-are : (m : Model) (c : Raw)
-    → rulesOf m .bow c ≡ any (λ r. bowTieOf (m .tolerance) (pointsOf (m .coords) (map (weldedBy (weldedAll (m .coords) (m .tolerance))) r))) (ringsOf c)
+    → rulesOf m .bow c ≡ any (λ r. bowTieOf (m .tolerance) (pointsOf (m .coords) (map (weldedBy (weldsOf m)) r))) (ringsOf c)
 unfolding rulesOf rulesWith bowOf
 bow-ties-are m c = refl
 
@@ -107,8 +108,12 @@ reordered-work m σ e r = same-work m σ (accepts m e) r
 pub reordered-refused : (m : Model) (σ work : List ℕ) → modelRefusal m ≡ 0 → Reordering m σ → checkRefusal (reordered σ m) work ≡ checkRefusal m work
 reordered-refused = same-check
 
--- The rules stay, as coordinates and tolerance do.
-pub reordered-rules : (m : Model) (σ : List ℕ) → rulesOf (reordered σ m) ≡ rulesOf m
+-- The nodes that cells name are the same (order 1 of document 02),
+pub reordered-used : (m : Model) (σ : List ℕ) → Perm σ (upFrom 0 (length (cellsOf m))) → usedNodes (cellsOf (reordered σ m)) ≡ usedNodes (cellsOf m)
+reordered-used = same-used
+
+-- so the rules stay, as coordinates and tolerance do.
+pub reordered-rules : (m : Model) (σ : List ℕ) → Perm σ (upFrom 0 (length (cellsOf m))) → rulesOf (reordered σ m) ≡ rulesOf m
 reordered-rules = same-rules
 
 -- "however its cells are reordered [..], the full lists before and after have the same findings, each as often, [..] with cells renamed and pairs unordered, an overfull face read as its nodes with all its owners;

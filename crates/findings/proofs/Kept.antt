@@ -72,7 +72,7 @@ report-is m findings findings' work work' t k c =
     }
 
 -- answers with the same number and values are the same
-told-same : (r s : CheckAnswer) → checkTold r ≡ checkTold s → r ≡ s
+pub told-same : (r s : CheckAnswer) → checkTold r ≡ checkTold s → r ≡ s
 told-same (Refused n) (Refused o) e = let q : n ≡ o = cc in ap Refused q
 told-same (Refused n) (Report t k) e = let z : _≡_ {A = ℕ} 0 1 = cc in absurd (omega arith)
 told-same (Report t k) (Refused n) e = let z : _≡_ {A = ℕ} 0 1 = cc in absurd (omega arith)

@@ -5,8 +5,9 @@ use mathlib.Core.Bool.{true, false}
 use mathlib.Core.List.{List, [], _∷_}
 use lib.Ieee.{Float, binary64, ofBits, ofInt, neg, add, sub, mul, div, lt, le, eq, isNan}
 use lib.IntN.{pos}
+use lib.ListN.{length}
 use Rattle.laws.specs.Refusals.{done}
-use Rattle.laws.specs.Lists.{each}
+use Rattle.laws.specs.Lists.{each, upFrom}
 use Rattle.floats.specs.Floats.{zero64, one64, two64, absoluteOf, largerOf}
 use Rattle.floats.specs.Root.{sqrt}
 use Rattle.floats.specs.RootAnswer.{rootAnswer}
@@ -16,7 +17,9 @@ use Rattle.area.specs.AreaTest.{spreadOf, areaOf}
 use Rattle.area.specs.declared.Area.the-variants.{Thin, Spans}
 use Rattle.bow_tie.specs.Edges.{placeOf, parallelOf, crossingOf, meetingOf, slackOf, onEdge, near, edgesMeet}
 use Rattle.bow_tie.specs.BowTie.{pairMeets, laterMeets, bowTieOf}
-use Rattle.snap.specs.Weld.{beforeOf, farOf, nearOf, welded, weldedAll}
+use Rattle.mesh.specs.Model.{Model, modelOf, PHED, cellsOf}
+use Rattle.snap.specs.Weld.{beforeOf, farOf, nearOf, welded}
+use Rattle.welding.specs.Used.{usedNodes, weldedUsed, weldsOf}
 use Rattle.findings.specs.Rules.{repeatsOf}
 
 abbrev quarter : Float
@@ -37,6 +40,10 @@ four = ofInt binary64 (pos 4)
 -- nodes that differ in x only
 abbrev alongX : List Float → List Float
 alongX xs = each (λ x. x ∷ zero64 ∷ zero64 ∷ []) xs
+
+-- a model of such nodes, all in one cell (order 1 of document 02)
+abbrev inOneCell : List Float → Float → Model
+inOneCell xs t = modelOf (alongX xs) (PHED ∷ []) (length xs ∷ []) (upFrom 0 (length xs)) t 3 65535
 
 -- (0,0,0), (1,0,0), (0,0.5,0)
 abbrev corner : List Float
@@ -70,9 +77,9 @@ pub record MarkedLines : Type 0 where
   root-of-four : rootAnswer four ≡ done two64
   root-of-minus-zero : rootAnswer (neg zero64) ≡ done (neg zero64)
   root-of-two : rootAnswer two64 ≡ done (ofBits binary64 0x3ff6_a09e_667f_3bcd)
-  welded-chain : weldedAll (alongX (zero64 ∷ three-quarters ∷ three-halves ∷ [])) one64 ≡ 0 ∷ 0 ∷ 2 ∷ []
-  welded-two : weldedAll (alongX (one64 ∷ zero64 ∷ [])) one64 ≡ 0 ∷ 0 ∷ []
-  welded-equal : weldedAll (alongX (one64 ∷ one64 ∷ [])) zero64 ≡ 0 ∷ 1 ∷ []
+  welded-chain : weldsOf (inOneCell (zero64 ∷ three-quarters ∷ three-halves ∷ []) one64) ≡ 0 ∷ 0 ∷ 2 ∷ []
+  welded-two : weldsOf (inOneCell (one64 ∷ zero64 ∷ []) one64) ≡ 0 ∷ 0 ∷ []
+  welded-equal : weldsOf (inOneCell (one64 ∷ one64 ∷ []) zero64) ≡ 0 ∷ 1 ∷ []
   repeated-three : repeatsOf (λ n. 0) (5 ∷ 7 ∷ 9 ∷ []) ≡ (5, 7) ∷ (7, 9) ∷ []
   repeated-back : repeatsOf (λ n. 0) (5 ∷ 7 ∷ 5 ∷ []) ≡ (5, 7) ∷ []
   area-thin : areaOf half (pointsOf corner (0 ∷ 1 ∷ 2 ∷ [])) ≡ Thin
@@ -81,7 +88,7 @@ pub record MarkedLines : Type 0 where
   ring-square : bowTieOf zero64 (pointsOf square ring) ≡ false
 
 pub marked : MarkedLines
-unfolding rootAnswer sqrt absoluteOf largerOf pointSub pointAdd pointScale pointDot pointCross lengthOf pointAt largestOf epsOf spreadOf areaOf placeOf parallelOf crossingOf meetingOf slackOf onEdge near edgesMeet pairMeets laterMeets bowTieOf beforeOf farOf nearOf welded weldedAll repeatsOf ofBits ofInt neg add sub mul div lt le eq isNan
+unfolding rootAnswer sqrt absoluteOf largerOf pointSub pointAdd pointScale pointDot pointCross lengthOf pointAt largestOf epsOf spreadOf areaOf placeOf parallelOf crossingOf meetingOf slackOf onEdge near edgesMeet pairMeets laterMeets bowTieOf beforeOf farOf nearOf cellsOf welded usedNodes weldedUsed repeatsOf ofBits ofInt neg add sub mul div lt le eq isNan
 marked =
     record {
       root-of-zero = refl;

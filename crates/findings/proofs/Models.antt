@@ -2,35 +2,38 @@
 use Prim.Native.Nat.{ℕ, _<_}
 use mathlib.Core.Path.{_≡_, refl, sym, ap, _∙_}
 use mathlib.Core.Logic.{_≢_, ∥∥₁-elim, ⊎-elim}
-use mathlib.Core.Bool.{true, false, cond}
+use mathlib.Core.Bool.{true, false, cond, Bool-set}
 use mathlib.Core.List.{List, [], _∷_, map, Perm, List·Memᴰ}
 use native.Mathlib.Nat.{ℕ-set}
 use native.Mathlib.Omega.{arith}
-use lib.Dec.{ltb}
+use lib.Dec.{ltb, eqb}
 use lib.ListN.{length, getD, length-map}
 use Rattle.laws.specs.Lists.{any, keep, upFrom}
 use Rattle.laws.specs.Refusals.{refusal}
 use Rattle.laws.proofs.Tests.{tested}
-use Rattle.laws.proofs.Permutations.{perm-length}
+use Rattle.laws.proofs.Permutations.{perm-each, perm-length}
 use Rattle.geometry.specs.Coordinates.{nodeCount}
 use Rattle.mesh.specs.Model.{Model, Raw, contains, TOPOLOGY, cellsOf}
 use Rattle.mesh.specs.Rings.{numbered}
 use Rattle.mesh.specs.Acceptance.{nodeOff, modelRefusal, facesIn}
-use Rattle.snap.specs.Weld.{weldedBy, weldedAll}
+use Rattle.snap.specs.Weld.{welded, weldedBy}
+use Rattle.welding.specs.Used.{usedNodes, weldedUsed, weldsOf}
+use Rattle.welding.proofs.Used.{used-same}
 use Rattle.findings.specs.Findings.{Finding, full}
 use Rattle.findings.specs.Rules.{repeatsOf, rulesWith, rulesOf, cellsIn, fullOf}
 use Rattle.findings.specs.Records.{fieldsOf, recordOf}
 use Rattle.findings.specs.Check.{checkRefusal}
-use Rattle.findings.specs.Compared.{none, shares, namesPair, withCells, reordered, compared}
+use Rattle.findings.specs.Compared.{none, shares, namesPair, moved, withCells, reordered, compared}
 use Rattle.findings.specs.Demand3.{PartlyShared, Reordering, Below}
-use Rattle.findings.proofs.Laws.{Every, every-imp}
+use Rattle.findings.proofs.Laws.{Every, every-imp, any-perm}
 use Rattle.findings.proofs.Reorder.{reordering}
 use Rattle.findings.proofs.Exact.{exact}
 use Rattle.findings.proofs.Means.{shares-means}
 use Rattle.findings.proofs.Told.{Told, told}
 use Rattle.mesh.proofs.Accepts.{accepts}
-use Rattle.findings.proofs.Moved.{reordered-cells, same-work, check-refusal, moved-accepts}
-use Rattle.findings.proofs.Small.{Low, faces-few, cells-few, rings-short, repeats-low, cells-nodes, nodes-few}
+use Rattle.mesh.proofs.CellWords.{few-nodes}
+use Rattle.findings.proofs.Moved.{moved-perm, reordered-cells, same-work, check-refusal, moved-accepts}
+use Rattle.findings.proofs.Small.{Low, faces-few, cells-few, rings-short, repeats-low, cells-nodes}
 use Rattle.findings.proofs.Fits.{below}
 use Rattle.findings.proofs.Same.{same-record}
 use Rattle.findings.proofs.Conflated.{same-compared}
@@ -69,15 +72,23 @@ module _ (m : Model) (i j : ℕ) (asked : contains (m .flags) TOPOLOGY ≡ true)
 
 -- ---- reordering
 
--- the rules see coordinates and tolerance alone
-pub same-rules : (m : Model) (σ : List ℕ) → rulesOf (reordered σ m) ≡ rulesOf m
-unfolding rulesOf reordered withCells
-same-rules m σ = refl
+-- the nodes used do not see the order of the cells
+pub same-used : (m : Model) (σ : List ℕ) → Perm σ (upFrom 0 (length (cellsOf m))) → usedNodes (cellsOf (reordered σ m)) ≡ usedNodes (cellsOf m)
+same-used m σ p =
+    ap usedNodes (reordered-cells σ m)
+    ∙ used-same (moved σ (cellsOf m)) (cellsOf m)
+    (λ a. ∥∥₁-elim p (Bool-set _ _) (λ d. any-perm (eqb a) (perm-each (λ c. c .words) (moved-perm σ (cellsOf m) d))))
+
+-- so neither do the rules, which see coordinates, tolerance and the welded map alone
+pub same-rules : (m : Model) (σ : List ℕ) → Perm σ (upFrom 0 (length (cellsOf m))) → rulesOf (reordered σ m) ≡ rulesOf m
+unfolding rulesOf weldedUsed reordered withCells
+same-rules m σ p =
+    ap (λ (l : List ℕ). rulesWith (m .coords) (m .tolerance) (welded (m .coords) (m .tolerance) (nodeCount (m .coords)) l)) (same-used m σ p)
 
 -- the findings before and after
 pub same-findings : (m : Model) (σ : List ℕ) → Perm σ (upFrom 0 (length (cellsOf m)))
     → Perm (map (compared (rulesOf m) (λ i. getD σ i 0)) (fullOf (reordered σ m))) (map (compared (rulesOf m) (λ i. i)) (fullOf m))
-same-findings m σ p = rw (full-of (reordered σ m), full-of m, same-rules m σ, reordered-cells σ m, flags) (reordering (rulesOf m) (m .flags) (cellsOf m) σ p)
+same-findings m σ p = rw (full-of (reordered σ m), full-of m, same-rules m σ p, reordered-cells σ m, flags) (reordering (rulesOf m) (m .flags) (cellsOf m) σ p)
   where
     flags : reordered σ m .flags ≡ m .flags
     flags = unfold reordered withCells in refl
@@ -108,8 +119,8 @@ unfolding facesIn rulesOf rulesWith fullOf cellsIn
 below-of m x e k =
     let h = accepts m e in
     let n = nodeCount (m .coords) in
-    let weld = weldedBy (weldedAll (m .coords) (m .tolerance)) in
-    let few : n < 4294967296 = nodes-few m h in
+    let weld = weldedBy (weldsOf m) in
+    let few : n < 4294967296 = omega (arith, few-nodes m h) in
     let low : Every (λ (c : Raw). Every (Low 4294967296) (repeatsOf weld (c .words))) (cellsOf m) =
     every-imp (λ (c : Raw). any (nodeOff n (c .kind)) (c .words) ≡ false) (λ (c : Raw). Every (Low 4294967296) (repeatsOf weld (c .words)))
     (λ c u. every-imp (Low n) (Low 4294967296) (λ p v. omega arith) (repeatsOf weld (c .words)) (repeats-low n (c .kind) weld (c .words) u)) (cellsOf m) (cells-nodes n (cellsOf m) (h .right)) in

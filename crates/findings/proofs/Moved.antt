@@ -6,26 +6,24 @@ use mathlib.Core.Bool.{Bool, false, Bool-set}
 use mathlib.Core.List.{List, [], _∷_, _++_, map, append-assoc, List·Permᴰ, List·Permᴰ·trans}
 use native.Mathlib.Nat.{ℕ-set}
 use native.Mathlib.Omega.{arith}
-use borrow.Author.Tests.{ltb-false, le-ltb, eqb-true, eq-eqb, not-false}
+use borrow.Author.Tests.{le-ltb, eq-eqb}
 use lib.Dec.{ltb, eqb}
-use lib.ListN.{length, getD, take, drop, length-map, length-append, length-drop, take-append-drop}
+use lib.ListN.{length, getD, length-map, length-append}
 use lib.Seq.{getD-append-seam, take-append-seam, drop-append-seam}
 use Rattle.laws.specs.Lists.{any, each, upFrom}
 use Rattle.laws.specs.Refusals.{refusal}
 use Rattle.laws.proofs.Permutations.{perm-eq, perm-each, perm-map, perm-length}
 use Rattle.geometry.specs.Coordinates.{nodeCount}
-use Rattle.mesh.specs.Model.{Model, Raw, cellsFrom, cellsOf}
+use Rattle.mesh.specs.Model.{Model, Raw, ascending, cellsFrom, cellsOf}
 use Rattle.mesh.specs.Rings.{ringsOf, ringWords}
 use Rattle.mesh.specs.Acceptance.{endsOff, facesIn, workNeeded, modelTable}
 use Rattle.findings.specs.Compared.{none, moved, endsFrom, withCells, reordered}
 use Rattle.findings.specs.Demand3.{Reordering}
-use Rattle.mesh.specs.Model.{ascending}
 use Rattle.findings.proofs.Laws.{any-perm, length-snoc}
-use Rattle.mesh.proofs.CellTallies.{ends-most}
 use Rattle.mesh.proofs.Accepted.{face-count, ring-words}
 use Rattle.mesh.proofs.Accepts.{accepted-clear, cellWrong, Accepts, accepted}
+use Rattle.mesh.proofs.CellWords.{cells-count, cells-words}
 use Rattle.laws.proofs.Tables.{clear-append}
-use Rattle.laws.proofs.Tests.{or-none}
 
 -- ---- cells, ends and words turn into one another
 
@@ -37,26 +35,7 @@ round-cells at (c ∷ cs) =
     rw (n, take-append-seam (c .words) (each (λ c. c .words) cs), drop-append-seam (c .words) (each (λ c. c .words) cs))
     (ap (λ (l : List Raw). c ∷ l) (round-cells (at + length (c .words)) cs))
 
--- the words of cells read are the words
-round-words : (at : ℕ) (ks es ws : List ℕ) → length ks ≡ length es → endsOff at es (at + length ws) ≡ false → each (λ c. c .words) (cellsFrom at ks es ws) ≡ ws
-round-words at [] [] [] l h = refl
-round-words at [] [] (w ∷ ws) l h = absurd (omega (arith, eqb-true at (at + suc (length ws)) (not-false (eqb at (at + suc (length ws))) h)))
-round-words at [] (e ∷ es) ws l h = absurd (omega arith)
-round-words at (k ∷ ks) [] ws l h = absurd (omega arith)
-round-words at (k ∷ ks) (e ∷ es) ws l h =
-    let p = or-none (ltb e at) (endsOff e es (at + length ws)) h in
-    let n : at + length ws ≡ e + length (drop (e - at) ws) =
-    omega (arith, length-drop (e - at) ws, ltb-false e at (p .0), ends-most e es (at + length ws) (p .1)) in
-    ap (λ (r : List ℕ). take (e - at) ws ++ r) (round-words e ks es (drop (e - at) ws) (omega arith) (ap (endsOff e es) (sym n) ∙ p .1))
-    ∙ take-append-drop (e - at) ws
-
--- there are as many cells as kinds
-count-cells : (at : ℕ) (ks es ws : List ℕ) → length ks ≡ length es → length (cellsFrom at ks es ws) ≡ length ks
-count-cells at [] es ws l = refl
-count-cells at (k ∷ ks) [] ws l = absurd (omega arith)
-count-cells at (k ∷ ks) (e ∷ es) ws l = ap suc (count-cells e ks es (drop (e - at) ws) (omega arith))
-
--- and as many ends as cells
+-- there are as many ends as cells
 count-ends : (at : ℕ) (cs : List Raw) → length (endsFrom at cs) ≡ length cs
 count-ends at [] = refl
 count-ends at (c ∷ cs) = ap suc (count-ends (at + length (c .words)) cs)
@@ -69,18 +48,6 @@ ends-right at (c ∷ cs) =
     omega (arith, length-append (c .words) (each (λ c. c .words) cs)) in
     rw (le-ltb (at + length (c .words)) at (omega arith), n) (ends-right (at + length (c .words)) cs)
 
--- an accepted model has as many cells as kinds
-pub cells-count : (m : Model) → Accepts m → length (cellsOf m) ≡ length (m .kinds)
-unfolding cellsOf
-cells-count m h = count-cells 0 (m .kinds) (m .ends) (m .words) (h .paired)
-
--- and its cells' words are its words
-pub cells-words : (m : Model) → Accepts m → each (λ c. c .words) (cellsOf m) ≡ m .words
-unfolding cellsOf
-cells-words m h =
-    let n : length (m .words) ≡ 0 + length (m .words) = omega arith in
-    round-words 0 (m .kinds) (m .ends) (m .words) (h .paired) (ap (endsOff 0 (m .ends)) (sym n) ∙ h .ends)
-
 -- ---- the cells moved
 
 -- every cell at its place
@@ -91,7 +58,7 @@ all-here pre (c ∷ cs) =
     (rw (append-assoc pre (c ∷ []) cs, length-snoc pre c) at (all-here (pre ++ (c ∷ [])) cs))
 
 -- moved cells are the cells in another order
-moved-perm : (σ : List ℕ) (cs : List Raw) → List·Permᴰ σ (upFrom 0 (length cs)) → List·Permᴰ (moved σ cs) cs
+pub moved-perm : (σ : List ℕ) (cs : List Raw) → List·Permᴰ σ (upFrom 0 (length cs)) → List·Permᴰ (moved σ cs) cs
 unfolding moved
 moved-perm σ cs d = List·Permᴰ·trans (perm-map (λ i. getD cs i none) d) (perm-eq (all-here [] cs))
 

@@ -1,26 +1,24 @@
 -- The numbers that an accepted model's findings name are small.
-use Prim.Native.Nat.{ℕ, suc, _+_, _*_, _%_, _≤_, _<_}
-use mathlib.Core.Path.{_≡_, refl, sym, ap, _∙_}
-use mathlib.Core.Logic.{_⊎_, inl, inr}
-use mathlib.Core.Bool.{Bool, true, false, not, cond, _&&_, _||_, and-true}
+use Prim.Native.Nat.{ℕ, suc, _+_, _*_, _≤_, _<_}
+use mathlib.Core.Path.{_≡_, refl, ap}
+use mathlib.Core.Bool.{Bool, true, false, not, cond}
 use mathlib.Core.List.{List, [], _∷_}
 use native.Mathlib.Omega.{arith}
-use borrow.Author.Tests.{ltb-false, leb-false}
+use borrow.Author.Tests.{ltb-false}
 use lib.Dec.{leb, ltb, eqb}
 use lib.ListN.{length, length-append}
 use Rattle.laws.specs.Lists.{any, each, walk, keep, last, add, distinct}
-use Rattle.laws.specs.Limits.{nodeLimit, cellLimit, wordLimit}
-use Rattle.laws.proofs.Tests.{tested}
+use Rattle.laws.specs.Limits.{cellLimit, wordLimit}
+use Rattle.laws.specs.Merging.{AllBelow}
 use Rattle.laws.proofs.ListLaws.{keep-length}
-use Rattle.geometry.specs.Coordinates.{nodeCount}
 use Rattle.mesh.specs.Model.{Model, Raw, TET4, HEX8, WEDGE6, PHED, cellsOf}
-use Rattle.mesh.specs.Rings.{Face, separator, at, tetRings, hexRings, wedgeRings, onto, runs, phedRings, ringsOf, numbered}
-use Rattle.mesh.specs.Acceptance.{countWrong, nodeOff, facesIn}
+use Rattle.mesh.specs.Rings.{Face, separator, nodesIn, at, tetRings, hexRings, wedgeRings, onto, runs, phedRings, ringsOf, numbered}
+use Rattle.mesh.specs.Acceptance.{nodeOff, facesIn}
 use Rattle.findings.specs.Rules.{pairLe, pairOf, repeatAt, repeatsOf}
 use Rattle.findings.proofs.Laws.{Every, every-imp, every-parts, every-keep, every-last, every-map-in, every-map-parts, every-each, every-walk-in}
 use Rattle.mesh.proofs.Accepts.{cellWrong, Accepts}
 use Rattle.laws.proofs.Tests.{or-none}
-use Rattle.findings.proofs.Moved.{cells-count, cells-words}
+use Rattle.mesh.proofs.CellWords.{cells-count, cells-words, named-low, right-words}
 use Rattle.mesh.proofs.Accepted.{rings-numbered, face-count}
 
 -- ---- how many faces
@@ -159,42 +157,25 @@ module _ {ℓ κ} {A : Type ℓ} (le : A → A → Bool) (P : A → Type κ) whe
   every-distinct [] h = tt
   every-distinct (x ∷ l) h = every-add x (distinct le l) (h .0) (every-distinct l (h .1))
 
--- the words that are nodes are below n
-nodes-low : (n k : ℕ) (ws : List ℕ) → any (nodeOff n k) ws ≡ false → Every (λ w. w < n) (keep (λ w. not (eqb w separator)) ws)
+-- numbers below n
+every-below : (n : ℕ) (l : List ℕ) → AllBelow n l → Every (λ w. w < n) l
 unfolding Every
-nodes-low n k [] e = tt
-nodes-low n k (w ∷ ws) e = go (tested (eqb w separator)) (or-none (nodeOff n k w) (any (nodeOff n k) ws) e) (nodes-low n k ws)
-  where
-    go : (eqb w separator ≡ true) ⊎ (eqb w separator ≡ false) → (nodeOff n k w ≡ false) × (any (nodeOff n k) ws ≡ false)
-        → (any (nodeOff n k) ws ≡ false → Every (λ w. w < n) (keep (λ w. not (eqb w separator)) ws)) → Every (λ w. w < n) (keep (λ w. not (eqb w separator)) (w ∷ ws))
-    go (inl s) p ih = rw s (ih (p .1))
-    go (inr s) p ih = rw s (leb-false n w (off (eqb k PHED) s (p .0)), ih (p .1))
-      where
-        off : (b : Bool) → eqb w separator ≡ false → (leb n w && not (b && eqb w separator)) ≡ false → leb n w ≡ false
-        off true s q = sym (and-true (leb n w)) ∙ (rw s at q)
-        off false s q = sym (and-true (leb n w)) ∙ q
+every-below n [] b = tt
+every-below n (w ∷ l) b = (b .0, every-below n l (b .1))
 
 -- the repeated pairs of words whose nodes are below n
 pub repeats-low : (n k : ℕ) (weld : ℕ → ℕ) (ws : List ℕ) → any (nodeOff n k) ws ≡ false → Every (Low n) (repeatsOf weld ws)
 unfolding repeatsOf Every
 repeats-low n k weld ws e =
-    let l = keep (λ w. not (eqb w separator)) ws in
-    let all = nodes-low n k ws e in
+    let l = nodesIn ws in
+    let all = every-below n l (named-low n k ws e) in
     every-distinct pairLe (Low n) (walk (λ before x after. repeatAt weld before x) [] l)
     (every-walk-in (Low n) (λ before x after. repeatAt weld before x) l (λ a x b q. let r = every-parts (λ w. w < n) a (x ∷ b) (rw q all) in low-at n weld a x (r .0) (r .1 .0)) [] l refl)
 
 -- no cell is wrong
 pub cells-nodes : (n : ℕ) (cs : List Raw) → any (cellWrong n) cs ≡ false → Every (λ c. any (nodeOff n (c .kind)) (c .words) ≡ false) cs
-unfolding Every cellWrong
+unfolding Every
 cells-nodes n [] e = tt
 cells-nodes n (c ∷ cs) e =
     let q = or-none (cellWrong n c) (any (cellWrong n) cs) e in
-    let r = or-none (eqb (c .kind) 0 || ltb PHED (c .kind)) (countWrong c || any (nodeOff n (c .kind)) (c .words)) (q .0) in
-    let s = or-none (countWrong c) (any (nodeOff n (c .kind)) (c .words)) (r .1) in
-    (s .1, cells-nodes n cs (q .1))
-
--- an accepted model has under 2^32 nodes
-pub nodes-few : (m : Model) → Accepts m → nodeCount (m .coords) < 4294967296
-nodes-few m h =
-    let p = or-none (ltb (3 * nodeLimit) (length (m .coords))) (not (eqb (length (m .coords) % 3) 0)) (h .coordinates) in
-    omega (arith, ltb-false (3 * nodeLimit) (length (m .coords)) (p .0))
+    (right-words n c (q .0), cells-nodes n cs (q .1))

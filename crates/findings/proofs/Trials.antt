@@ -17,7 +17,8 @@ use Rattle.bow_tie.specs.BowTie.{pairMeets, laterMeets, bowTieOf}
 use Rattle.mesh.specs.Model.{Model, cellsOf}
 use Rattle.mesh.specs.Rings.{separator, ringsOf, facesFrom, numberFrom, numbered, facesOf, faces, sameKey}
 use Rattle.mesh.specs.Acceptance.{shapeOff, cellTable, modelRefusal}
-use Rattle.snap.specs.Weld.{beforeOf, farOf, nearOf, welded, weldedAll}
+use Rattle.snap.specs.Weld.{beforeOf, farOf, nearOf, welded}
+use Rattle.welding.specs.Used.{usedNodes, weldedUsed}
 use Rattle.findings.specs.Findings.{overfull, partly, overOf, overAt, common, sharing, meets, meeting, partlyOf, pairAt, kind1, kind2, kind3, kind4, full}
 use Rattle.findings.specs.Rules.{repeatsOf, bowOf, rulesWith, rulesOf, cellsIn, fullOf}
 use Rattle.findings.specs.Records.{fieldsOf, centreIn, recordBytes, recordOf, keptOf, keptBytes}
@@ -94,7 +95,7 @@ pub record Tried : Type 0 where
   nodes-over : countOff (3 * 65536) ≡ true
 
 pub tried : Tried
-unfolding ofBits toBits ofInt neg add sub mul div lt le eq isNan absoluteOf largerOf sqrt pointSub pointAdd pointScale pointDot pointCross lengthOf pointAt share centreOf largestOf epsOf spreadOf areaOf placeOf parallelOf crossingOf meetingOf slackOf onEdge near edgesMeet pairMeets laterMeets bowTieOf cellsOf ringsOf facesFrom numberFrom numbered facesOf faces sameKey shapeOff cellTable modelRefusal beforeOf farOf nearOf welded weldedAll overOf overAt common sharing meets meeting partlyOf pairAt kind1 kind2 kind3 kind4 full repeatsOf bowOf rulesWith rulesOf cellsIn fullOf fieldsOf centreIn recordBytes recordOf keptOf keptBytes totalsOf
+unfolding ofBits toBits ofInt neg add sub mul div lt le eq isNan absoluteOf largerOf sqrt pointSub pointAdd pointScale pointDot pointCross lengthOf pointAt share centreOf largestOf epsOf spreadOf areaOf placeOf parallelOf crossingOf meetingOf slackOf onEdge near edgesMeet pairMeets laterMeets bowTieOf cellsOf ringsOf facesFrom numberFrom numbered facesOf faces sameKey shapeOff cellTable modelRefusal beforeOf farOf nearOf welded usedNodes weldedUsed overOf overAt common sharing meets meeting partlyOf pairAt kind1 kind2 kind3 kind4 full repeatsOf bowOf rulesWith rulesOf cellsIn fullOf fieldsOf centreIn recordBytes recordOf keptOf keptBytes totalsOf
 tried =
     record {
       cube-accepted = refl;

@@ -9,8 +9,9 @@ use Rattle.geometry.specs.Points.{midpointOf, pointAt, pointsOf, centreOf}
 use Rattle.area.specs.AreaTest.{areaOf, isSpans}
 use Rattle.bow_tie.specs.BowTie.{bowTieOf}
 use Rattle.mesh.specs.Model.{Model, Raw, cellsOf}
-use Rattle.mesh.specs.Rings.{Cell, separator, ringsOf, numbered}
-use Rattle.snap.specs.Weld.{weldedBy, weldedAll}
+use Rattle.mesh.specs.Rings.{Cell, nodesIn, ringsOf, numbered}
+use Rattle.snap.specs.Weld.{weldedBy}
+use Rattle.welding.specs.Used.{weldsOf}
 use Rattle.findings.specs.Findings.{Rules, Finding, full}
 
 -- ---- repeated nodes of a cell
@@ -29,7 +30,7 @@ repeatAt weld before n = map (pairOf n) (keep (λ p. not (eqb p n)) (last (keep 
 
 -- in the words, separators skipped; each pair once, by nodes
 unfoldable pub repeatsOf : (ℕ → ℕ) → List ℕ → List (ℕ × ℕ)
-repeatsOf weld ws = distinct pairLe (walk (λ before n after. repeatAt weld before n) [] (keep (λ w. not (eqb w separator)) ws))
+repeatsOf weld ws = distinct pairLe (walk (λ before n after. repeatAt weld before n) [] (nodesIn ws))
 
 -- ---- bow-ties
 
@@ -51,9 +52,9 @@ rulesWith c tol welds =
       middle = λ a b. midpointOf (pointAt c a) (pointAt c b);
     }
 
--- under the welded map of all nodes
+-- under the model's welded map
 unfoldable pub rulesOf : Model → Rules
-rulesOf m = rulesWith (m .coords) (m .tolerance) (weldedAll (m .coords) (m .tolerance))
+rulesOf m = rulesWith (m .coords) (m .tolerance) (weldsOf m)
 
 -- the model's cells with their numbers
 unfoldable pub cellsIn : Model → List Cell

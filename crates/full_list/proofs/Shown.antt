@@ -5,7 +5,7 @@ use mathlib.Core.List.{List, []}
 use lib.Ieee.{Float}
 use Rattle.laws.specs.Lists.{each, walk, upFrom}
 use Rattle.mesh.specs.Model.{Model, cellsOf}
-use Rattle.snap.specs.Weld.{weldedAll}
+use Rattle.welding.specs.Used.{weldsOf}
 use Rattle.findings.specs.Findings.{Finding, kind2, kind3, kind4}
 use Rattle.findings.specs.Rules.{rulesOf, cellsIn}
 use Rattle.findings.specs.Records.{recordOf}
@@ -23,7 +23,7 @@ use Rattle.full_list.specs.Found.{KeptBy}
 -- the plain rules give the model's records
 same-records : (m : Model) (tol : Float) (x : Finding) → recordOf (plainRules (m .coords) tol) x ≡ recordOf (rulesOf m) x
 unfolding rulesOf
-same-records m tol x = records-same (m .coords) tol (m .tolerance) [] (weldedAll (m .coords) (m .tolerance)) x
+same-records m tol x = records-same (m .coords) tol (m .tolerance) [] (weldsOf m) x
 
 module _ (m : Model) (l : Layout) (t : List ℕ) (S : Shows m l t) (room n k : ℕ) (f g : List ℕ) where
   pub overs-kept : KeptAny (m .coords) room n (each (overCell l t) (upFrom 0 (l .at .«cell_count»))) f g k → KeptBy m room n (walk (kind2 (rulesOf m)) [] (cellsIn m)) f g k

@@ -8,3 +8,4 @@ pub mod Stores
 pub mod Tables
 pub mod Bounds
 pub mod ByteLaws
+pub mod Members

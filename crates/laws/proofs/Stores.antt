@@ -234,3 +234,14 @@ zero-front work part work' n h e p =
     p
     ∙ sets-front (part ++ drop n work) (replicate n 0) (omega (arith, zeros, long, h))
     ∙ ap (λ (l : List ℕ). replicate n 0 ++ l) (ap (λ (k : ℕ). drop k (part ++ drop n work)) (zeros ∙ sym e) ∙ drop-append-seam part (drop n work) ∙ ap (λ (k : ℕ). drop k work) (sym zeros))
+
+-- n words cleared in front, where nothing behind the first f had changed
+pub cleared : (w v : List ℕ) (f need : ℕ) → drop f v ≡ drop f w → f ≤ need → need ≤ length w → length v ≡ length w → sets v 0 (replicate need 0) ≡ sets w 0 (replicate need 0)
+cleared w v f need e h b same =
+    let zeros = length-replicate {A = ℕ} need 0 in
+    let k : f + (need - f) ≡ need = omega arith in
+    let rest : drop need v ≡ drop need w =
+    ap (λ (j : ℕ). drop j v) (sym k) ∙ sym (drop-drop (need - f) f v) ∙ ap (drop (need - f)) e ∙ drop-drop (need - f) f w ∙ ap (λ (j : ℕ). drop j w) k in
+    sets-front v (replicate need 0) (omega arith)
+    ∙ ap (λ (l : List ℕ). replicate need 0 ++ l) (ap (λ (j : ℕ). drop j v) zeros ∙ rest ∙ ap (λ (j : ℕ). drop j w) (sym zeros))
+    ∙ sym (sets-front w (replicate need 0) (omega arith))

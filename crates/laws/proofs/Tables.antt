@@ -57,6 +57,11 @@ refusal-first (row ∷ rows) b n = go (tested (row .1)) (λ m. refusal-first row
 pub refusal-second : (a b : List (ℕ × Bool)) → Numbered a → refusal a ≡ 0 → refusal (a ++ b) ≡ refusal b
 refusal-second a b n z = clear-append a b (refusal-clear a n z)
 
+-- where no reason of the second holds, the first's number stands
+pub refusal-end : (a b : List (ℕ × Bool)) → any reason b ≡ false → refusal (a ++ b) ≡ refusal a
+refusal-end [] b e = clear-refusal b e
+refusal-end (row ∷ rows) b e = ap (cond (row .1) (row .0)) (refusal-end rows b e)
+
 -- a list that a refusal leaves as it was
 pub unfilled : {A : Type 0} (n m : ℕ) (xs l : List A) → n ≡ m → m ≢ 0 → l ≡ filled n xs l
 unfilled n m xs l h p = sym (ap (λ (k : ℕ). filled k xs l) h ∙ ap (λ (b : Bool). cond b (xs ++ drop (length xs) l) l) (ne-eqb m 0 p))

@@ -9,7 +9,7 @@ use Rattle.geometry.specs.Coordinates.{nodeCount}
 use Rattle.mesh.specs.Model.{Model, cellsOf}
 use Rattle.mesh.specs.Rings.{ringsOf}
 use Rattle.mesh.specs.Acceptance.{facesIn}
-use Rattle.snap.specs.Weld.{weldedAll}
+use Rattle.welding.specs.Used.{weldsOf}
 use Rattle.findings.specs.Rules.{rulesOf}
 use Rattle.findings.specs.Compared.{none}
 use Rattle.index.specs.Faces.{input, bowOf, Room}
@@ -24,7 +24,7 @@ pub record Shows (m : Model) (l : Layout) (t : List ℕ) : Type 0 where
   pub faces : facesAt l t ≡ facesIn m
   pub firsts : (c : ℕ) → c ≤ length (cellsOf m) → firstOf l t c ≡ length (each ringsOf (take c (cellsOf m)))
   pub bows : (c : ℕ) → c < length (cellsOf m) → bowOf (l .at) t c ≡ rulesOf m .bow (getD (cellsOf m) c none)
-  pub welds : region (l .weld) (l .at .nodes) t ≡ weldedAll (m .coords) (m .tolerance)
+  pub welds : region (l .weld) (l .at .nodes) t ≡ weldsOf m
 
 -- the tables stand in w, with room for all else; the indexes are not yet built
 pub record Tabled (l : Layout) (w : List ℕ) : Type 0 where

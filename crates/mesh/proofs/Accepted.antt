@@ -1,5 +1,5 @@
 -- The table of a model, row by row; and its faces by its cells.
-use Prim.Native.Nat.{ℕ, suc, _+_, _≤_, _<_}
+use Prim.Native.Nat.{ℕ, suc, _+_, _*_, _≤_, _<_}
 use mathlib.Core.Path.{_≡_, refl, sym, ap, ap₂, _∙_}
 use mathlib.Core.Logic.{_≢_}
 use mathlib.Core.Bool.{true, false, not, _||_}
@@ -16,7 +16,7 @@ use Rattle.laws.proofs.Tests.{or-none}
 use Rattle.geometry.specs.Coordinates.{nodeCount, countOff, toleranceOff, coordinatesOff}
 use Rattle.mesh.specs.Model.{Model, Raw, cellsOf}
 use Rattle.mesh.specs.Rings.{Face, ringsOf, facesFrom, numberFrom, numbered, facesOf, faces, ringWords}
-use Rattle.mesh.specs.Acceptance.{endsOff, shapeOff, cellTable, cellsTable, modelRefusal, facesIn}
+use Rattle.mesh.specs.Acceptance.{endsOff, shapeOff, cellTable, cellsTable, modelRefusal, facesIn, workNeeded}
 use Rattle.mesh.specs.Steps.{CellsCounted, ModelCounted}
 use Rattle.mesh.specs.declared.CellTally.{CellTally}
 use Rattle.mesh.proofs.CellTallies.{nine}
@@ -156,3 +156,16 @@ model-refused m t n e z a =
 pub model-passed : (m : Model) (t : CellTally) → modelRefusal m ≡ 0 → CellsCounted (nodeCount (m .coords)) (cellsOf m) t → t .refusal ≡ 0 → ModelCounted m t
 model-passed m t e c z =
     record { refusal = z ∙ sym e; faces = λ y. c .faces y ∙ sym (face-count m); words = λ y. c .words y ∙ ap length (sym (ring-words m)); few = c .few; small = c .small }
+
+-- ---- the work needed
+
+-- from the counts
+pub work-is : (m : Model) (t : CellTally) → ModelCounted m t → t .refusal ≡ 0
+    → 8 * t .words + 4 * t .faces + 8 * length (m .kinds) + 4 * nodeCount (m .coords) + 4 * length (m .words) + 16 ≡ workNeeded m
+unfolding workNeeded
+work-is m t c z = rw (c .words z, c .faces z)
+
+-- it holds three words a node
+pub work-room : (m : Model) → 3 * nodeCount (m .coords) ≤ workNeeded m
+unfolding workNeeded
+work-room m = omega arith

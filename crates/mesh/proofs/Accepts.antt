@@ -12,22 +12,28 @@ use Rattle.laws.specs.Limits.{cellLimit, wordLimit, flagLimit}
 use Rattle.laws.specs.Refusals.{refusal}
 use Rattle.laws.proofs.Tests.{or-none, and-parts}
 use Rattle.laws.proofs.ListLaws.{any-append}
-use Rattle.laws.proofs.Tables.{reason, Numbered, numbered-append, clear-append, clear-refusal, refusal-clear}
+use Rattle.laws.proofs.Tables.{reason, Numbered, numbered-append, clear-append, clear-refusal, refusal-clear, refusal-end}
 use Rattle.geometry.specs.Coordinates.{nodeCount, countOff, toleranceOff, coordinatesOff}
 use Rattle.mesh.specs.Model.{Model, Raw, PHED, ascending, cellsOf}
-use Rattle.mesh.specs.Acceptance.{endsOff, shapeOff, kindOff, countWrong, nodeOff, cellTable, cellsTable, modelTable, modelRefusal}
+use Rattle.mesh.specs.Acceptance.{endsOff, shapeOff, kindOff, countWrong, nodeOff, cellTable, cellsTable, meshTable, modelTable, modelRefusal}
 use Rattle.mesh.proofs.Accepted.{nines}
 
 -- every row of a model has a number
+pub numbers-mesh : (m : Model) → Numbered (meshTable m)
+numbers-mesh m = (λ e. omega arith, (λ e. omega arith, (λ e. omega arith, (λ e. omega arith, nines (nodeCount (m .coords)) 0 (cellsOf m)))))
+
 pub numbers-model : (m : Model) → Numbered (modelTable m)
-numbers-model m =
-    let cells = cellsTable (nodeCount (m .coords)) 0 (cellsOf m) in
-    (λ e. omega arith, (λ e. omega arith, (λ e. omega arith, (λ e. omega arith, numbered-append cells _ (nines (nodeCount (m .coords)) 0 (cellsOf m)) (λ e. omega arith, tt)))))
+numbers-model m = numbered-append (meshTable m) _ (numbers-mesh m) (λ e. omega arith, tt)
 
 -- an accepted model: no reason holds
 pub accepted-clear : (m : Model) → modelRefusal m ≡ 0 → any reason (modelTable m) ≡ false
 unfolding modelRefusal
 accepted-clear m e = refusal-clear (modelTable m) (numbers-model m) e
+
+-- with flags that pass, the mesh alone is refused or not
+pub mesh-refusal : (m : Model) → ltb flagLimit (m .flags) ≡ false → refusal (meshTable m) ≡ modelRefusal m
+unfolding modelRefusal
+mesh-refusal m h = sym (refusal-end (meshTable m) ((10, ltb flagLimit (m .flags)) ∷ []) (rw h))
 
 -- ---- cells
 

@@ -8,3 +8,4 @@ pub mod Accepted
 pub mod Accepts
 pub mod ByKind
 pub mod NodeNumbers
+pub mod CellWords

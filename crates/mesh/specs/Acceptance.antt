@@ -55,13 +55,18 @@ cellsTable n before (c ∷ cs) = cellTable n before c ++ cellsTable n (c .kind) 
 
 -- ---- the table of a model
 
-abbrev pub modelTable : Model → List (ℕ × Bool)
-modelTable m =
+-- 5 to 9: nodes, cells and tolerance
+abbrev pub meshTable : Model → List (ℕ × Bool)
+meshTable m =
     (5, shapeOff m)
     ∷ (6, toleranceOff (m .tolerance))
     ∷ (7, coordinatesOff (m .coords))
     ∷ (8, eqb (length (m .kinds)) 0)
-    ∷ (cellsTable (nodeCount (m .coords)) 0 (cellsOf m) ++ ((10, ltb flagLimit (m .flags)) ∷ []))
+    ∷ cellsTable (nodeCount (m .coords)) 0 (cellsOf m)
+
+-- then 10: the flags
+abbrev pub modelTable : Model → List (ℕ × Bool)
+modelTable m = meshTable m ++ ((10, ltb flagLimit (m .flags)) ∷ [])
 
 unfoldable pub modelRefusal : Model → ℕ
 modelRefusal m = refusal (modelTable m)

@@ -1,6 +1,6 @@
 -- The rings of a cell (`cell_faces`), and cells and faces with their numbers.
 use Prim.Native.Nat.{ℕ, suc, _+_}
-use mathlib.Core.Bool.{Bool, cond}
+use mathlib.Core.Bool.{Bool, not, cond}
 use mathlib.Core.List.{List, [], _∷_, map}
 use lib.Dec.{leb, eqb}
 use lib.ListN.{length, getD}
@@ -10,6 +10,10 @@ use Rattle.mesh.specs.Model.{Raw, TET4, HEX8, WEDGE6, PHED}
 -- separates the rings in a PHED's words
 abbrev pub separator : ℕ
 separator = 4294967295
+
+-- the words that are nodes: separators skipped
+abbrev pub nodesIn : List ℕ → List ℕ
+nodesIn ws = keep (λ w. not (eqb w separator)) ws
 
 -- ---- the rings of a cell
 

@@ -7,16 +7,18 @@ use native.Mathlib.Nat.{le-trans}
 use native.Mathlib.Omega.{arith}
 use lib.ListN.{length, take}
 use Rattle.laws.specs.Lists.{each}
+use Rattle.laws.specs.Merging.{AllBelow}
 use Rattle.geometry.specs.Coordinates.{nodeCount, coordinatesOff}
 use Rattle.mesh.specs.Model.{Model, Raw}
-use Rattle.mesh.specs.Rings.{ringsOf}
+use Rattle.mesh.specs.Rings.{nodesIn, ringsOf}
 use Rattle.mesh.specs.Acceptance.{modelRefusal, workNeeded}
 use Rattle.mesh.specs.Steps.{ringTotal, ModelCounted}
 use Rattle.mesh.specs.declared.CellTally.{CellTally}
 use Rattle.mesh.proofs.Accepts.{accepts}
+use Rattle.mesh.proofs.CellWords.{words-low}
 use Rattle.faces.specs.Spans.{Sound, ringsIn}
 use Rattle.faces.proofs.Rings.{sound-of}
-use Rattle.ring_lists.proofs.Lists.{work-room}
+use Rattle.mesh.proofs.Accepted.{work-room}
 use Rattle.layout.specs.declared.Layout.{Layout}
 use Rattle.layout.specs.Tables.{Ringed}
 use Rattle.model_tables.proofs.Contents.{Settled, RingTables, Marked}
@@ -51,8 +53,8 @@ module _ (m : Model) (ok : modelRefusal m ≡ 0) where
   asks-plan t c = let f = few m ok in (c .small, c .few, omega (arith, f .kinds), omega (arith, f .nodes), omega (arith, f .words))
 
   -- the welded map: three words a node
-  pub asks-weld : (w : List ℕ) → workNeeded m ≤ length w → (nodeCount (m .coords) ≡ nodeCount (m .coords)) × (3 * nodeCount (m .coords) ≤ length w) × (nodeCount (m .coords) < 2 ^ 32) × (coordinatesOff (m .coords) ≡ false)
-  asks-weld w h = let f = few m ok in (refl, le-trans (work-room m ok) h, omega (arith, f .nodes), accepts m ok .places)
+  pub asks-weld : (w : List ℕ) → workNeeded m ≤ length w → (nodeCount (m .coords) ≡ nodeCount (m .coords)) × (3 * nodeCount (m .coords) ≤ length w) × (nodeCount (m .coords) < 2 ^ 32) × (coordinatesOff (m .coords) ≡ false) × AllBelow (nodeCount (m .coords)) (nodesIn (m .words))
+  asks-weld w h = let f = few m ok in let k = accepts m ok in (refl, le-trans (work-room m) h, omega (arith, f .nodes), k .places, words-low m k)
 
   module _ (K : ℕ) (l : Layout) (s : Settled (m .coords) (cells m ok) (length (m .words)) K l) (w : List ℕ) (h : workNeeded m ≤ length w) where
     abbrev cs : List Raw

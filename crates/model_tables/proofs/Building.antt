@@ -9,20 +9,22 @@ use lib.Ieee.{Float}
 use lib.ListN.{length, replicate, length-replicate}
 use lib.Seq.{sets, length-sets, length-take-le}
 use Rattle.laws.specs.Lists.{each, sort}
-use Rattle.laws.specs.Merging.{region, startsOf}
+use Rattle.laws.specs.Merging.{region, startsOf, AllBelow}
+use Rattle.laws.proofs.Members.{below-distinct}
 use Rattle.geometry.specs.Coordinates.{nodeCount}
 use Rattle.mesh.specs.Model.{Model, Raw, cellsFrom, cellsOf}
-use Rattle.mesh.specs.Rings.{ringsOf, nodeSet}
+use Rattle.mesh.specs.Rings.{nodesIn, ringsOf, nodeSet}
 use Rattle.mesh.specs.Acceptance.{modelRefusal, facesIn, workNeeded}
 use Rattle.mesh.specs.Steps.{ringTotal, ModelCounted}
 use Rattle.mesh.specs.declared.CellTally.{CellTally}
 use Rattle.mesh.proofs.Accepts.{accepts}
 use Rattle.mesh.proofs.NodeNumbers.{cells-below}
 use Rattle.faces.proofs.Rings.{sound-of, faces-are, words-are}
-use Rattle.snap.specs.Weld.{weldedAll}
-use Rattle.ring_lists.proofs.Lists.{few-nodes}
+use Rattle.welding.specs.Used.{weldedUsed}
+use Rattle.welding.specs.Steps.{weldedOver}
+use Rattle.welding.proofs.Used.{used-words, welds-words}
+use Rattle.mesh.proofs.CellWords.{cells-count, words-low, few-nodes}
 use Rattle.findings.specs.Rules.{rulesOf, rulesWith}
-use Rattle.findings.proofs.Moved.{cells-count}
 use Rattle.index.specs.Faces.{input, Room}
 use Rattle.layout.specs.declared.Layout.{Layout}
 use Rattle.layout.specs.Tables.{Spaced}
@@ -71,13 +73,13 @@ module _ (coords : List Float) (tol : Float) (cells : List Raw) (M K : ℕ) (l :
       record {
         tables = record {
           rings = record {
-            welds = holds-at w (l .weld) (q .weld) (weldedAll coords tol) (omega arith) (r .welds);
+            welds = holds-at w (l .weld) (q .weld) (weldedUsed coords tol cells) (omega arith) (r .welds);
             rings = holds-at w (l .rings) (q .rings) (joined rs) (omega arith) (r .rings);
             rows = holds-at w (l .rows) (q .rows) (startsOf 0 rs) (omega arith) (r .rows);
             firsts = holds-at w (l .firsts) (q .firsts) (startsOf 0 (map ringsOf cells)) (omega arith) (r .firsts);
           };
           faces = record {
-            bows = holds-at w (l .at .bows) (q .at .bows) (map (λ c. bit (meets coords tol c)) cells) (omega arith) (f .bows);
+            bows = holds-at w (l .at .bows) (q .at .bows) (map (λ c. bit (meets coords tol cells c)) cells) (omega arith) (f .bows);
             owners = holds-at w (l .at .cells) (q .at .cells) (ownersFrom 0 cells) (omega arith) (f .owners);
             keys = holds-at w (l .keys) (q .keys) (joined (map (sort leb) rs)) (omega arith) (f .keys);
             starts = holds-at w (l .at .starts) (q .at .starts) (startsOf 0 (map nodeSet rs)) (omega arith) (f .starts);
@@ -119,10 +121,15 @@ module _ (m : Model) (ok : modelRefusal m ≡ 0) where
       record {
         kinds = z .few;
         words = z .small;
-        nodes = few-nodes m ok;
+        nodes = few-nodes m (accepts m ok);
         rings = sized-many rs (sized-cells cells (z .well));
         total = omega (arith, z .few, z .small, cells-small 0 (m .kinds) (m .ends) (m .words) (z .well));
       }
+
+  -- the map over the nodes that the words name is that of the cells
+  pub welds-are : weldedOver (m .coords) (m .tolerance) (m .words) ≡ weldedUsed (m .coords) (m .tolerance) cells
+  unfolding cellsOf
+  welds-are = welds-words m (accepts m ok)
 
   -- what the acceptance counted
   pub counts-are : (t : CellTally) → ModelCounted m t → (t .words ≡ ringTotal rs) × (t .faces ≡ length rs)
@@ -137,6 +144,7 @@ module _ (m : Model) (ok : modelRefusal m ≡ 0) where
       record {
         well = sound-of m ok .well;
         below = cells-below n cells (accepts m ok .right);
+        used = subst (AllBelow n) (sym (used-words m (accepts m ok))) (below-distinct n (nodesIn (m .words)) (words-low m (accepts m ok)));
         planned =
             subst (λ (i : ℕ). Planned (ringTotal rs) (length rs) i n M K l) (sym kinds-are)
             (subst (λ (i : ℕ). Planned (ringTotal rs) i (length (m .kinds)) n M K l) (e .1) (subst (λ (i : ℕ). Planned i (t .faces) (length (m .kinds)) n M K l) (e .0) p));

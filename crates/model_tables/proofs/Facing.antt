@@ -69,16 +69,16 @@ module _ (coords : List Float) (tol : Float) (cells : List Raw) (M K : ℕ) (l :
   owners-held = holds-long t (l .at .cells) (length rs) (ownersFrom 0 cells) (sym (owners-length 0 cells)) (f .owners)
 
   -- the mark of a cell
-  pub bow-read : (c : ℕ) → c < length cells → bowOf (l .at) t c ≡ meets coords tol (getD cells c none)
+  pub bow-read : (c : ℕ) → c < length cells → bowOf (l .at) t c ≡ meets coords tol cells (getD cells c none)
   bow-read c h =
-      let marks = map (λ c. bit (meets coords tol c)) cells in
-      let n : length marks ≡ length cells = length-map cells (λ c. bit (meets coords tol c)) in
+      let marks = map (λ c. bit (meets coords tol cells c)) cells in
+      let n : length marks ≡ length cells = length-map cells (λ c. bit (meets coords tol cells c)) in
       ap (λ (v : ℕ). not (eqb v 0))
       (sym (getD-region (l .at .bows) (length marks) t c 0 (omega arith))
       ∙ ap (λ (x : List ℕ). getD x c 0) (f .bows)
-      ∙ getD-any marks c 0 (bit (meets coords tol none)) (omega arith)
-      ∙ List·getD-map (λ c. bit (meets coords tol c)) cells c none)
-      ∙ mark-read (meets coords tol (getD cells c none))
+      ∙ getD-any marks c 0 (bit (meets coords tol cells none)) (omega arith)
+      ∙ List·getD-map (λ c. bit (meets coords tol cells c)) cells c none)
+      ∙ mark-read (meets coords tol cells (getD cells c none))
 
   -- the faces are those of the cells
   pub faces-are : facesAt l t ≡ faces ringsOf (numbered ringsOf cells)

@@ -18,7 +18,9 @@ use Rattle.bow_tie.specs.BowTie.{bowTieOf}
 use Rattle.mesh.specs.Model.{Raw}
 use Rattle.mesh.specs.Rings.{ringsOf, nodeSet}
 use Rattle.mesh.specs.Steps.{ringTotal}
-use Rattle.snap.specs.Weld.{weldedBy, weldedAll}
+use Rattle.snap.specs.Weld.{weldedBy}
+use Rattle.welding.specs.Used.{usedNodes, weldedUsed}
+use Rattle.welding.proofs.Used.{length-welds}
 use Rattle.findings.specs.Rules.{bowOf}
 use Rattle.findings.specs.Compared.{none}
 use Rattle.layout.specs.declared.Layout.{Layout}
@@ -27,7 +29,7 @@ use Rattle.layout.specs.ByCell.{ringBow, cellBow, bit}
 use Rattle.node_sets.specs.Sets.{keysOf, setsFrom}
 use Rattle.tables.proofs.Shown.{joined, starts-length, joined-next, start-read, row-read, first-read, firsts-rise}
 use Rattle.model_tables.proofs.Sizes.{sized-cells, sized-at, below-ring}
-use Rattle.model_tables.proofs.Welds.{welds-below, welds-long}
+use Rattle.model_tables.proofs.Welds.{welded-below}
 use Rattle.model_tables.proofs.Reading.{holds-long, map-upFrom, any-upFrom, each-most, each-next, each-at}
 use Rattle.model_tables.proofs.Contents.{meets, Settled, RingTables}
 
@@ -37,7 +39,7 @@ module _ (coords : List Float) (tol : Float) (cells : List Raw) (M K : ℕ) (l :
   rs = each ringsOf cells
 
   abbrev welds : List ℕ
-  welds = weldedAll coords tol
+  welds = weldedUsed coords tol cells
 
   -- ---- words of the tables
 
@@ -51,7 +53,7 @@ module _ (coords : List Float) (tol : Float) (cells : List Raw) (M K : ℕ) (l :
 
   -- the welded map
   pub welds-held : region (l .weld) (l .at .nodes) t ≡ welds
-  welds-held = holds-long t (l .weld) (l .at .nodes) welds (s .planned .many-nodes ∙ sym (welds-long coords tol)) (b .welds)
+  welds-held = holds-long t (l .weld) (l .at .nodes) welds (s .planned .many-nodes ∙ sym (length-welds coords tol cells)) (b .welds)
 
   -- where a ring starts
   pub row-at : (g : ℕ) → g ≤ length rs → getD t (l .rows + g) 0 ≡ ringTotal (take g rs)
@@ -98,9 +100,10 @@ module _ (coords : List Float) (tol : Float) (cells : List Raw) (M K : ℕ) (l :
 
   -- so are the welded numbers
   pub welds-known : AllBelow (l .at .nodes) (region (l .weld) (l .at .nodes) t)
+  unfolding weldedUsed
   welds-known =
       subst (λ (n : ℕ). AllBelow n (region (l .weld) (l .at .nodes) t)) (sym (s .planned .many-nodes))
-      (subst (AllBelow (nodeCount coords)) (sym welds-held) (welds-below coords tol))
+      (subst (AllBelow (nodeCount coords)) (sym welds-held) (welded-below coords tol (nodeCount coords) (usedNodes cells) (s .used)))
 
   -- the first faces rise
   pub firsts-rising : (c : ℕ) → c < l .at .«cell_count» → firstOf l t c ≤ firstOf l t (c + 1)
@@ -140,7 +143,7 @@ module _ (coords : List Float) (tol : Float) (cells : List Raw) (M K : ℕ) (l :
   ring-bow g h = ap₂ (λ (x r : List ℕ). bowTieOf tol (pointsOf coords (map (weldedBy x) r))) welds-held (ring-at g h)
 
   -- a cell is marked as its rings say
-  cell-bow : (c : ℕ) → c < length cells → cellBow coords tol l t c ≡ meets coords tol (getD cells c none)
+  cell-bow : (c : ℕ) → c < length cells → cellBow coords tol l t c ≡ meets coords tol cells (getD cells c none)
   unfolding cellBow bowOf
   cell-bow c h =
       let cell = getD cells c none in
@@ -153,10 +156,10 @@ module _ (coords : List Float) (tol : Float) (cells : List Raw) (M K : ℕ) (l :
       (λ j k. ring-bow (from + j) (omega (arith, next, each-most ringsOf (c + 1) cells)) ∙ ap crossed (each-at ringsOf cells c none j [] h k))
 
   -- the marks of all cells
-  pub bows-are : map (λ c. bit (cellBow coords tol l t c)) (upFrom 0 (l .at .«cell_count»)) ≡ map (λ c. bit (meets coords tol c)) cells
+  pub bows-are : map (λ c. bit (cellBow coords tol l t c)) (upFrom 0 (l .at .«cell_count»)) ≡ map (λ c. bit (meets coords tol cells c)) cells
   bows-are =
       ap (λ (n : ℕ). map (λ c. bit (cellBow coords tol l t c)) (upFrom 0 n)) (s .planned .many-cells)
-      ∙ map-upFrom (λ c. bit (cellBow coords tol l t c)) (λ c. bit (meets coords tol c)) none cells 0
+      ∙ map-upFrom (λ c. bit (cellBow coords tol l t c)) (λ c. bit (meets coords tol cells c)) none cells 0
       (λ j h. ap bit (ap (cellBow coords tol l t) (zero-add j) ∙ cell-bow j h))
 
   -- the keys of all faces

@@ -12,7 +12,8 @@ use Rattle.laws.specs.Merging.{region, startsOf}
 use Rattle.geometry.specs.Coordinates.{nodeCount}
 use Rattle.mesh.specs.Model.{Raw}
 use Rattle.mesh.specs.Rings.{ringsOf, nodeSet}
-use Rattle.snap.specs.Weld.{weldedAll}
+use Rattle.welding.specs.Used.{weldedUsed}
+use Rattle.welding.proofs.Used.{length-welds}
 use Rattle.layout.specs.declared.Layout.{Layout}
 use Rattle.layout.specs.Tables.{Ringed}
 use Rattle.layout.specs.ByCell.{cellBow, bit}
@@ -21,7 +22,6 @@ use Rattle.tables.specs.Owners.{ownersFrom}
 use Rattle.tables.proofs.Passing.{owners-length}
 use Rattle.tables.proofs.Shown.{joined, starts-length}
 use Rattle.model_tables.proofs.Sizes.{sets-total, keys-total}
-use Rattle.model_tables.proofs.Welds.{welds-long}
 use Rattle.model_tables.proofs.Reading.{Holds, holds-put, holds-before, holds-take}
 use Rattle.model_tables.proofs.Contents.{meets, Settled, RingTables, FaceTables, Marked, Tabled}
 use Rattle.model_tables.proofs.Ringing.{ringed, bows-are, keys-are, sets-are}
@@ -35,13 +35,13 @@ module _ (coords : List Float) (tol : Float) (cells : List Raw) (M K : ℕ) (l :
   nodes = map nodeSet rs
 
   abbrev marks : List ℕ
-  marks = map (λ c. bit (meets coords tol c)) cells
+  marks = map (λ c. bit (meets coords tol cells c)) cells
 
   -- ---- where the tables end
 
   -- each ends where the next starts
   record Ends : Type 0 where
-    welds-end : l .weld + length (weldedAll coords tol) ≤ l .rings
+    welds-end : l .weld + length (weldedUsed coords tol cells) ≤ l .rings
     rings-end : l .rings + length (joined rs) ≤ l .rows
     rows-end : l .rows + length (startsOf 0 rs) ≤ l .firsts
     firsts-end : l .firsts + length (startsOf 0 (map ringsOf cells)) ≤ l .at .bows
@@ -55,11 +55,11 @@ module _ (coords : List Float) (tol : Float) (cells : List Raw) (M K : ℕ) (l :
   ends : Ends
   ends =
       record {
-        welds-end = omega (arith, s .planned .weld-at, s .planned .rings-at, welds-long coords tol);
+        welds-end = omega (arith, s .planned .weld-at, s .planned .rings-at, length-welds coords tol cells);
         rings-end = omega (arith, s .planned .rows-at);
         rows-end = omega (arith, s .planned .firsts-at, starts-length 0 rs);
         firsts-end = omega (arith, s .planned .bows-at, starts-length 0 (map ringsOf cells), length-map cells ringsOf);
-        bows-end = omega (arith, s .planned .cells-at, length-map cells (λ c. bit (meets coords tol c)));
+        bows-end = omega (arith, s .planned .cells-at, length-map cells (λ c. bit (meets coords tol cells c)));
         owners-end = omega (arith, s .planned .keys-at, owners-length 0 cells);
         keys-end = omega (arith, s .planned .starts-at, keys-total rs);
         starts-end = omega (arith, s .planned .sets-at, starts-length 0 nodes, length-map rs nodeSet);
@@ -73,7 +73,7 @@ module _ (coords : List Float) (tol : Float) (cells : List Raw) (M K : ℕ) (l :
   rings-still w v o xs h e b =
       let p = ends in
       record {
-        welds = holds-before w v o xs (l .weld) (weldedAll coords tol) (omega arith) e (b .welds);
+        welds = holds-before w v o xs (l .weld) (weldedUsed coords tol cells) (omega arith) e (b .welds);
         rings = holds-before w v o xs (l .rings) (joined rs) (omega arith) e (b .rings);
         rows = holds-before w v o xs (l .rows) (startsOf 0 rs) (omega arith) e (b .rows);
         firsts = holds-before w v o xs (l .firsts) (startsOf 0 (map ringsOf cells)) (omega arith) e (b .firsts);
@@ -84,7 +84,7 @@ module _ (coords : List Float) (tol : Float) (cells : List Raw) (M K : ℕ) (l :
   rings-part w n h b =
       let p = ends in
       record {
-        welds = holds-take w n (l .weld) (weldedAll coords tol) (omega arith) (b .welds);
+        welds = holds-take w n (l .weld) (weldedUsed coords tol cells) (omega arith) (b .welds);
         rings = holds-take w n (l .rings) (joined rs) (omega arith) (b .rings);
         rows = holds-take w n (l .rows) (startsOf 0 rs) (omega arith) (b .rows);
         firsts = holds-take w n (l .firsts) (startsOf 0 (map ringsOf cells)) (omega arith) (b .firsts);
@@ -117,7 +117,7 @@ module _ (coords : List Float) (tol : Float) (cells : List Raw) (M K : ℕ) (l :
   -- ---- group by group
 
   -- the rings behind the welded map
-  pub rings-put : (w v : List ℕ) → l .at .bows ≤ length w → region 0 (nodeCount coords) w ≡ weldedAll coords tol
+  pub rings-put : (w v : List ℕ) → l .at .bows ≤ length w → region 0 (nodeCount coords) w ≡ weldedUsed coords tol cells
       → v ≡ sets (sets (sets w (l .rings) (joined rs)) (l .rows) (startsOf 0 rs)) (l .firsts) (startsOf 0 (map ringsOf cells)) → RingTables coords tol cells l v
   rings-put w v h k e =
       let p = ends in
@@ -125,8 +125,8 @@ module _ (coords : List Float) (tol : Float) (cells : List Raw) (M K : ℕ) (l :
       let b = sets a (l .rows) (startsOf 0 rs) in
       let na = length-sets w (l .rings) (joined rs) in
       let nb = length-sets a (l .rows) (startsOf 0 rs) in
-      let W = weldedAll coords tol in
-      let first : Holds w (l .weld) W = ap₂ (λ (o n : ℕ). region o n w) (s .planned .weld-at) (welds-long coords tol) ∙ k in
+      let W = weldedUsed coords tol cells in
+      let first : Holds w (l .weld) W = ap₂ (λ (o n : ℕ). region o n w) (s .planned .weld-at) (length-welds coords tol cells) ∙ k in
       record {
         welds = holds-before b v (l .firsts) (startsOf 0 (map ringsOf cells)) (l .weld) W (omega arith) e
             (holds-before a b (l .rows) (startsOf 0 rs) (l .weld) W (omega arith) refl

@@ -1,6 +1,5 @@
 -- Welded numbers are nodes.
 use Prim.Native.Nat.{ℕ, zero, suc, _<_, min}
-use mathlib.Core.Path.{_≡_, _∙_}
 use mathlib.Core.Bool.{Bool, true, false, cond, _||_}
 use mathlib.Core.List.{List, [], _∷_}
 use native.Mathlib.Omega.{arith}
@@ -9,11 +8,9 @@ use lib.ListN.{length, set}
 use Rattle.laws.specs.Lists.{fold, elem, sort, upFrom}
 use Rattle.laws.specs.Merging.{AllBelow}
 use Rattle.laws.proofs.Bounds.{below-sort, below-upFrom}
-use Rattle.laws.proofs.ListLaws.{length-upFrom}
 use Rattle.floats.specs.Floats.{zero64}
-use Rattle.geometry.specs.Coordinates.{nodeCount}
-use Rattle.snap.specs.Weld.{beforeOf, takes, groups, least, give, spread, welded, weldedAll}
-use Rattle.snap.proofs.Groups.{nodes-takes, length-spread}
+use Rattle.snap.specs.Weld.{beforeOf, takes, groups, least, give, spread, welded}
+use Rattle.snap.proofs.Groups.{nodes-takes}
 
 -- groups of nodes below n, none empty
 abbrev Grouped : ℕ → List (List ℕ) → Type 0
@@ -57,31 +54,13 @@ groups-below c t n f (x ∷ ns) k =
     go true p q = p
     go false p q = (omega arith, (k .0, nodes-takes c t n x f ns (k .1)), q)
 
-module _ (c : List Float) (t : Float) where
-  -- the number of nodes
-  abbrev n : ℕ
-  n = nodeCount c
-
-  -- the groups of all nodes
-  abbrev gs : List (List ℕ)
-  gs = groups c t (λ k. false) (sort (beforeOf c) (upFrom 0 n))
-
-  -- the welded numbers of a model are nodes
-  pub welds-below : AllBelow (nodeCount c) (weldedAll c t)
-  unfolding weldedAll welded
-  welds-below = go (eq t zero64)
-    where
-      go : (b : Bool) → AllBelow n (cond b (upFrom 0 n) (spread gs (upFrom 0 n)))
-      go true = below-upFrom n 0 n (omega arith)
-      go false =
-          below-spread n gs (upFrom 0 n) (groups-below c t n (λ k. false) (sort (beforeOf c) (upFrom 0 n)) (below-sort (beforeOf c) n (upFrom 0 n) (below-upFrom n 0 n (omega arith))))
-          (below-upFrom n 0 n (omega arith))
-
-  -- there are as many as nodes
-  pub welds-long : length (weldedAll c t) ≡ nodeCount c
-  unfolding weldedAll welded
-  welds-long = go (eq t zero64)
-    where
-      go : (b : Bool) → length (cond b (upFrom 0 n) (spread gs (upFrom 0 n))) ≡ n
-      go true = length-upFrom 0 n
-      go false = length-spread gs (upFrom 0 n) ∙ length-upFrom 0 n
+-- the welded numbers of n nodes are nodes
+pub welded-below : (c : List Float) (t : Float) (n : ℕ) (ns : List ℕ) → AllBelow n ns → AllBelow n (welded c t n ns)
+unfolding welded
+welded-below c t n ns h = go (eq t zero64)
+  where
+    go : (b : Bool) → AllBelow n (cond b (upFrom 0 n) (spread (groups c t (λ k. false) (sort (beforeOf c) ns)) (upFrom 0 n)))
+    go true = below-upFrom n 0 n (omega arith)
+    go false =
+        below-spread n (groups c t (λ k. false) (sort (beforeOf c) ns)) (upFrom 0 n)
+        (groups-below c t n (λ k. false) (sort (beforeOf c) ns) (below-sort (beforeOf c) n ns h)) (below-upFrom n 0 n (omega arith))

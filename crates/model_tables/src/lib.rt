@@ -6,14 +6,14 @@ ghost use Prim.Native.Nat.{_+_, _*_, _≤_, _<_, _^_};
 ghost use lib.ListN.{length, take, replicate};
 ghost use lib.Seq.{sets};
 ghost use Rattle.laws.specs.Lists.{each, upFrom};
-ghost use Rattle.laws.specs.Merging.{region, startsOf};
+ghost use Rattle.laws.specs.Merging.{region, startsOf, AllBelow};
 ghost use Rattle.geometry.specs.Coordinates.{nodeCount, coordinatesOff};
 ghost use Rattle.mesh.specs.Model.{cellsFrom, modelOf};
-ghost use Rattle.mesh.specs.Rings.{ringsOf};
+ghost use Rattle.mesh.specs.Rings.{nodesIn, ringsOf};
 ghost use Rattle.mesh.specs.Acceptance.{modelRefusal, workNeeded};
 ghost use Rattle.mesh.specs.Steps.{ringTotal, ModelCounted};
 ghost use Rattle.faces.specs.Spans.{Sound, ringsIn};
-ghost use Rattle.snap.specs.Weld.{weldedAll};
+ghost use Rattle.welding.specs.Steps.{weldedOver};
 ghost use Rattle.layout.specs.Tables.{Ringed};
 ghost use Rattle.layout.specs.ByCell.{cellBow, bit};
 ghost use Rattle.layout.specs.Shown.{Built};
@@ -123,12 +123,12 @@ fn copy_front(work: &mut [u32], a: usize, n: usize)
     }
 }
 
-// The welded numbers of all n nodes go to the front.
-fn put_weld(coords: &[f64], tol: f64, work: &mut [u32], n: usize)
-    requires { ⌜ (n ≡ nodeCount (now coords)) × (3 * n ≤ length (now work)) × (n < 2 ^ 32) × (coordinatesOff (now coords) ≡ false) ⌝ }
-    ensures { λ _. ⌜ region 0 n (now (work .exit)) ≡ weldedAll (now (coords .entry)) tol ⌝ }
+// The welded numbers of all n nodes go to the front: the nodes that the words name are welded.
+fn put_weld(coords: &[f64], words: &[u32], tol: f64, work: &mut [u32], n: usize)
+    requires { ⌜ (n ≡ nodeCount (now coords)) × (3 * n ≤ length (now work)) × (n < 2 ^ 32) × (coordinatesOff (now coords) ≡ false) × AllBelow n (nodesIn (now words)) ⌝ }
+    ensures { λ _. ⌜ region 0 n (now (work .exit)) ≡ weldedOver (now (coords .entry)) tol (now (words .entry)) ⌝ }
 {
-    ring_lists::weld_all(coords, tol, work, n);
+    welding::weld_named(coords, words, tol, work, n);
     copy_front(work, n + n, n);
 }
 
@@ -199,7 +199,7 @@ pub fn build_tables(
 {
     let n = coords.len() / 3;
     let l = plan(t.words, t.faces, kinds.len(), n, words.len(), 0);
-    put_weld(coords, tol, work, n);
+    put_weld(coords, words, tol, work, n);
     put_rings(kinds, ends, words, work, l);
     put_marks(coords, kinds, ends, words, tol, work, l);
     let k = put_nodes(work, l);

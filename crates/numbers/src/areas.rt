@@ -16,17 +16,6 @@ fn number(a: Area) -> usize {
     }
 }
 
-// The first k of nodes become those in the list at a place.
-fn read_nodes(test: &[u8], at: usize, nodes: &mut [u32], k: usize)
-    requires { ⌜ (at + 4 * k ≤ length (now test)) × (k ≤ length (now nodes)) ⌝ }
-{
-    let mut i = 0;
-    while i < k {
-        nodes[i] = test_support::four(test, at + 4 * i) as u32;
-        i += 1;
-    }
-}
-
 // The answer to a test: our number of what it says, or 5 where it is refused.
 fn answer(test: &[u8], n: usize, k: usize) -> usize
     requires { ⌜ (n ≤ 64) × (k ≤ 64) × (16 + 24 * n + 4 * k ≤ length (now test)) ⌝ }
@@ -34,7 +23,7 @@ fn answer(test: &[u8], n: usize, k: usize) -> usize
     let mut coords = [0.0f64; 192];
     let mut nodes = [0u32; 64];
     test_support::read_coords(test, 16, &mut coords, 3 * n);
-    read_nodes(test, 16 + 24 * n, &mut nodes, k);
+    test_support::read_words(test, 16 + 24 * n, &mut nodes, k);
     let a = area::area_test(&coords[0..3 * n], &nodes[0..k], floats::le_f64(test, 8));
     match a {
         AreaAnswer::Refused(_) => 5,

@@ -80,7 +80,7 @@ fn run_all(s: &[u8], kind: Kind) {
 
 // The list of data/ with that name.
 pub fn run(name: &[u8], kind: Kind) {
-    let mut buf = [0u8; 300000];
+    let mut buf = [0u8; 350000];
     let n = test_support::read_file(name, &mut buf).size;
     run_all(&buf[0..n], kind);
 }

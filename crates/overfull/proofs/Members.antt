@@ -8,10 +8,11 @@ use native.Mathlib.Omega.{arith}
 use borrow.Author.Tests.{leb-true, ltb-true}
 use lib.Dec.{leb, ltb, eqb}
 use lib.ListN.{length}
-use Rattle.laws.specs.Lists.{onlyIf, keep, upFrom, elem, insert, sort, distinct, add}
-use Rattle.laws.proofs.Tests.{tested, clash, and-parts, or-swap, eqb-self}
+use Rattle.laws.specs.Lists.{onlyIf, keep, upFrom, elem, sort, add}
+use Rattle.laws.proofs.Tests.{tested, clash, and-parts, eqb-self}
 use Rattle.laws.proofs.ListLaws.{eql-true}
 use Rattle.laws.proofs.Ascending.{asc-ext, elem-add, elem-upFrom, head-in, later-in}
+use Rattle.laws.proofs.Members.{elem-sort, elem-distinct}
 use Rattle.mesh.specs.Rings.{nodeSet}
 use Rattle.index.specs.declared.Places.{Places}
 use Rattle.index.specs.Faces.{nodesOf, facesWith}
@@ -19,25 +20,6 @@ use Rattle.triple_keys.specs.Keys.{tripleKey, keysOf}
 use Rattle.layout.specs.declared.Layout.{Layout}
 use Rattle.layout.specs.Tables.{ringRow, keyRow, Faced}
 use Rattle.overfull.specs.Alike.{sameAs, alike}
-
--- a member of a list with x put in its place
-elem-insert : (n x : ℕ) (l : List ℕ) → elem n (insert leb x l) ≡ (eqb n x || elem n l)
-elem-insert n x [] = refl
-elem-insert n x (y ∷ l) = go (elem-insert n x l) (tested (leb x y))
-  where
-    go : elem n (insert leb x l) ≡ (eqb n x || elem n l) → (leb x y ≡ true) ⊎ (leb x y ≡ false) → elem n (insert leb x (y ∷ l)) ≡ (eqb n x || elem n (y ∷ l))
-    go ih (inl a) = rw a
-    go ih (inr a) = simp (a, ih) (or-swap (eqb n y) (eqb n x) (elem n l))
-
--- a sorted list has the same members
-elem-sort : (n : ℕ) (l : List ℕ) → elem n (sort leb l) ≡ elem n l
-elem-sort n [] = refl
-elem-sort n (x ∷ l) = elem-insert n x (sort leb l) ∙ ap (λ (b : Bool). eqb n x || b) (elem-sort n l)
-
--- and so has a node set
-elem-distinct : (n : ℕ) (l : List ℕ) → elem n (distinct leb l) ≡ elem n l
-elem-distinct n [] = refl
-elem-distinct n (x ∷ l) = elem-add n x (distinct leb l) ∙ ap (λ (b : Bool). eqb n x || b) (elem-distinct n l)
 
 -- a list with a member is not empty
 member-some : (x : ℕ) (l : List ℕ) → elem x l ≡ true → 0 < length l
@@ -82,7 +64,7 @@ module _ (l : Layout) (t : List ℕ) (f : Faced l t) (g : ℕ) (h : g < l .at .f
   -- a face's nodes are the words of its key
   node-key : (v x : ℕ) → x < l .at .faces → elem v (nodesOf (l .at) t x) ≡ elem v (keyRow l t x)
   node-key v x k =
-      ap (elem v) (f .noded x k) ∙ elem-distinct v (ringRow l t x) ∙ sym (elem-sort v (ringRow l t x)) ∙ ap (elem v) (sym (f .keyed x k))
+      ap (elem v) (f .noded x k) ∙ elem-distinct v (ringRow l t x) ∙ sym (elem-sort leb v (ringRow l t x)) ∙ ap (elem v) (sym (f .keyed x k))
 
   -- a face with g's sorted ring has g's nodes
   same-nodes : (x : ℕ) → x < l .at .faces → sameAs l t g x ≡ true → nodesOf (l .at) t x ≡ nodesOf (l .at) t g

@@ -8,13 +8,12 @@ use lib.Dec.{leb, eqb}
 use Rattle.laws.specs.Lists.{any, onlyIf}
 use Rattle.laws.specs.Merging.{AllBelow}
 use Rattle.mesh.specs.Model.{PHED}
-use Rattle.mesh.specs.Rings.{separator}
+use Rattle.mesh.specs.Rings.{separator, nodesIn}
 use Rattle.mesh.specs.Acceptance.{nodeOff}
 use Rattle.findings.specs.Rules.{repeatsOf}
 use Rattle.findings.proofs.Laws.{Every}
 use Rattle.findings.proofs.Small.{Low, repeats-low}
 use Rattle.pair_sort.specs.Pairs.{flat}
-use Rattle.repeats.specs.Marks.{nodesIn}
 
 -- where the nodes among a polyhedron's words are below n, no word is refused
 none-off : (n : ℕ) (ws : List ℕ) → AllBelow n (nodesIn ws) → any (nodeOff n PHED) ws ≡ false

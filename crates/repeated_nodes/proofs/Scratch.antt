@@ -12,7 +12,7 @@ use Rattle.findings.specs.Rules.{repeatsOf}
 use Rattle.pair_sort.specs.Pairs.{pairsIn, pairsAt}
 use Rattle.pair_sort.proofs.PairLaws.{pairs-flat, pairs-region}
 use Rattle.repeats.specs.declared.Regions.{Regions}
-use Rattle.repeats.specs.Marks.{nodesIn}
+use Rattle.mesh.specs.Rings.{nodesIn}
 use Rattle.repeats.specs.Repeats.{Ready, repeatsIn, Listed}
 use Rattle.index.specs.Faces.{input}
 use Rattle.layout.specs.declared.Layout.{Layout}

@@ -6,7 +6,7 @@ ghost use lib.ListN.{length};
 ghost use Rattle.laws.specs.Merging.{region, AllBelow};
 ghost use Rattle.geometry.specs.Coordinates.{nodeCount};
 ghost use Rattle.pair_sort.specs.Pairs.{pairsAt};
-ghost use Rattle.repeats.specs.Marks.{nodesIn};
+ghost use Rattle.mesh.specs.Rings.{nodesIn};
 ghost use Rattle.findings.specs.Findings.{repeated};
 ghost use Rattle.index.specs.Faces.{input};
 ghost use Rattle.layout.specs.Tables.{Standing, Still};

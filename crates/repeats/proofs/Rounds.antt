@@ -14,13 +14,13 @@ use Rattle.laws.specs.Merging.{region, AllBelow}
 use Rattle.laws.proofs.Bounds.{below-at}
 use Rattle.laws.proofs.ListLaws.{getD-any}
 use Rattle.laws.proofs.Stores.{getD-region, length-region, region-before, sets-cover, sets-comm, sets-append, take-before}
-use Rattle.mesh.specs.Rings.{separator}
+use Rattle.mesh.specs.Rings.{separator, nodesIn}
 use Rattle.snap.proofs.Parts.{read-to}
 use Rattle.findings.specs.Rules.{pairOf}
 use Rattle.pair_sort.specs.Pairs.{flat}
 use Rattle.pair_sort.proofs.PairLaws.{length-flat}
 use Rattle.repeats.specs.declared.Regions.{Regions}
-use Rattle.repeats.specs.Marks.{nodesIn, hit, hits, mark, weldIn, marksIn, placeOf, Noted}
+use Rattle.repeats.specs.Marks.{hit, hits, mark, weldIn, marksIn, placeOf, Noted}
 use Rattle.repeats.proofs.Walk.{length-mark}
 
 -- ---- words

@@ -16,7 +16,8 @@ use Rattle.pair_sort.proofs.PairLaws.{length-flat, pairs-flat}
 use Rattle.pair_sort.proofs.PairOrder.{pair-total}
 use Rattle.pair_sort.proofs.Once.{unrepeated-length, unrepeated-sort}
 use Rattle.repeats.specs.declared.Regions.{Regions}
-use Rattle.repeats.specs.Marks.{nodesIn, hits, mark, weldIn, marksIn, Found}
+use Rattle.mesh.specs.Rings.{nodesIn}
+use Rattle.repeats.specs.Marks.{hits, mark, weldIn, marksIn, Found}
 use Rattle.repeats.specs.Repeats.{Ready, repeatsIn, Listed}
 use Rattle.repeats.proofs.Walk.{hits-walk, length-mark, put-back}
 use Rattle.repeats.proofs.Rounds.{weld-inside}

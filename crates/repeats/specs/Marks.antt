@@ -6,17 +6,13 @@ use mathlib.Core.List.{List, [], _∷_, _++_}
 use lib.Dec.{eqb}
 use lib.ListN.{length, getD, set}
 use lib.Seq.{sets}
-use Rattle.laws.specs.Lists.{onlyIf, keep}
+use Rattle.laws.specs.Lists.{onlyIf}
 use Rattle.laws.specs.Merging.{region, AllBelow}
-use Rattle.mesh.specs.Rings.{separator}
+use Rattle.mesh.specs.Rings.{nodesIn}
 use Rattle.snap.specs.Weld.{weldedBy}
 use Rattle.findings.specs.Rules.{pairOf}
 use Rattle.pair_sort.specs.Pairs.{flat}
 use Rattle.repeats.specs.declared.Regions.{Regions}
-
--- the words that are nodes
-abbrev pub nodesIn : List ℕ → List ℕ
-nodesIn ws = keep (λ w. not (eqb w separator)) ws
 
 -- node n's pair with the node that left the mark p, if there is one and it is another
 abbrev pub hit : ℕ → ℕ → List (ℕ × ℕ)

@@ -8,7 +8,7 @@ use Rattle.snap.specs.Weld.{weldedBy}
 use Rattle.findings.specs.Rules.{repeatsOf}
 use Rattle.pair_sort.specs.Pairs.{flat}
 use Rattle.repeats.specs.declared.Regions.{Regions}
-use Rattle.repeats.specs.Marks.{nodesIn}
+use Rattle.mesh.specs.Rings.{nodesIn}
 
 -- the regions lie one behind the other; marks are zero; words other than separators, and welded numbers, are nodes
 pub record Ready (words w : List ℕ) (at : Regions) : Type 0 where

@@ -6,7 +6,8 @@ ghost use lib.ListN.{length};
 ghost use lib.Seq.{sets};
 ghost use Rattle.findings.specs.Rules.{pairOf};
 ghost use Rattle.pair_sort.specs.Pairs.{flat};
-ghost use Rattle.repeats.specs.Marks.{nodesIn, hit, mark, weldIn, marksIn, placeOf, Sound, Numbered, Noting, Noted, Found};
+ghost use Rattle.mesh.specs.Rings.{nodesIn};
+ghost use Rattle.repeats.specs.Marks.{hit, mark, weldIn, marksIn, placeOf, Sound, Numbered, Noting, Noted, Found};
 ghost use Rattle.repeats.specs.Repeats.{Ready, Listed};
 
 // Where the regions of the work lie: welded numbers and marks, one for each of the nodes; pairs; room to sort them.

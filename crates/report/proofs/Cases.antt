@@ -19,7 +19,8 @@ use Rattle.bow_tie.specs.Edges.{placeOf, parallelOf, crossingOf, meetingOf, sla
 use Rattle.mesh.specs.Acceptance.{shapeOff, cellTable, modelRefusal, facesIn, workNeeded}
 use Rattle.mesh.specs.Model.{Model, cellsOf}
 use Rattle.mesh.specs.Rings.{ringsOf, facesFrom, numberFrom, numbered, facesOf, faces, sameKey}
-use Rattle.snap.specs.Weld.{beforeOf, farOf, nearOf, welded, weldedAll}
+use Rattle.snap.specs.Weld.{beforeOf, farOf, nearOf, welded}
+use Rattle.welding.specs.Used.{usedNodes, weldedUsed}
 use Rattle.model_file.specs.File.{decode}
 use Rattle.findings.specs.Check.{Totals, totalsOf}
 use Rattle.findings.specs.Findings.{overOf, overAt, common, sharing, meets, meeting, partlyOf, pairAt, kind1, kind2, kind3, kind4, full}
@@ -45,7 +46,7 @@ keptIn m = keptBytes (rulesOf m) (totalsOf m (64 * programRecords) .kept) (fullO
 
 -- the output and the records are the definitions', which compute under these names
 unfoldable pub agrees : Case → Bool
-unfolding spreadOf areaOf pairMeets laterMeets bowTieOf placeOf parallelOf crossingOf meetingOf slackOf onEdge near edgesMeet totalsOf overOf overAt common sharing meets meeting partlyOf pairAt kind1 kind2 kind3 kind4 full fieldsOf centreIn recordBytes recordOf keptOf keptBytes repeatsOf bowOf rulesWith rulesOf cellsIn fullOf absoluteOf largerOf sqrt pointSub pointAdd pointScale pointDot pointCross lengthOf midpointOf pointAt share centreOf largestOf epsOf shapeOff cellTable modelRefusal facesIn workNeeded cellsOf ringsOf facesFrom numberFrom numbered facesOf faces sameKey decode reportOf output decimal lineOf totalLine refusedLine reportText beforeOf farOf nearOf welded weldedAll add sub mul div neg lt le eq isNan ofBits toBits ofInt
+unfolding spreadOf areaOf pairMeets laterMeets bowTieOf placeOf parallelOf crossingOf meetingOf slackOf onEdge near edgesMeet totalsOf overOf overAt common sharing meets meeting partlyOf pairAt kind1 kind2 kind3 kind4 full fieldsOf centreIn recordBytes recordOf keptOf keptBytes repeatsOf bowOf rulesWith rulesOf cellsIn fullOf absoluteOf largerOf sqrt pointSub pointAdd pointScale pointDot pointCross lengthOf midpointOf pointAt share centreOf largestOf epsOf shapeOff cellTable modelRefusal facesIn workNeeded cellsOf ringsOf facesFrom numberFrom numbered facesOf faces sameKey decode reportOf output decimal lineOf totalLine refusedLine reportText beforeOf farOf nearOf welded usedNodes weldedUsed add sub mul div neg lt le eq isNan ofBits toBits ofInt
 agrees c =
     eql (output (c .input)) (c .output)
     && eql (onlyIf (eqb (refusal (programTable (c .input))) 0) (keptIn (decode (c .input)))) (c .records)

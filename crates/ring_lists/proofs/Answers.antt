@@ -18,7 +18,8 @@ use Rattle.mesh.specs.Acceptance.{modelTable, modelRefusal, facesIn, workNeeded
 use Rattle.mesh.specs.Steps.{ModelCounted}
 use Rattle.mesh.specs.declared.CellTally.{CellTally}
 use Rattle.mesh.proofs.Accepts.{accepted-clear}
-use Rattle.snap.specs.Weld.{weldedAll, weldedBy}
+use Rattle.snap.specs.Weld.{weldedBy}
+use Rattle.welding.specs.Used.{weldsOf}
 use Rattle.ring_lists.specs.Filling.{rawRings, weldedRings, fillRefusal, Filling}
 use Rattle.ring_lists.specs.Steps.{Stored}
 use Rattle.ring_lists.specs.declared.RingsAnswer.{RingsAnswer}
@@ -72,18 +73,13 @@ module _ (m : Model) (raw welded work : List ℕ) where
         answered = rw (e, k);
         memory = record {
           rawIs = s .rawIs ∙ sets-front raw (rawRings m) b ∙ rw e;
-          weldedIs = s .weldedIs ∙ sets-front welded (weldedRings m) (omega (arith, length-map (rawRings m) (weldedBy (weldedAll (m .coords) (m .tolerance))))) ∙ rw e;
+          weldedIs = s .weldedIs ∙ sets-front welded (weldedRings m) (omega (arith, length-map (rawRings m) (weldedBy (weldsOf m)))) ∙ rw e;
           workIs = s .workIs ∙ sets-front work (replicate (workNeeded m) 0) (omega (arith, length-replicate {A = ℕ} (workNeeded m) 0)) ∙ rw e;
         };
       }
 
--- ---- the work needed, from the counts
+-- ---- the words, from the counts
 
 pub words-are : (m : Model) (t : CellTally) → ModelCounted m t → t .refusal ≡ 0 → t .words ≡ length (rawRings m)
 unfolding rawRings
 words-are m t c z = c .words z
-
-pub work-is : (m : Model) (t : CellTally) → ModelCounted m t → t .refusal ≡ 0
-    → 8 * t .words + 4 * t .faces + 8 * length (m .kinds) + 4 * nodeCount (m .coords) + 4 * length (m .words) + 16 ≡ workNeeded m
-unfolding workNeeded
-work-is m t c z = rw (c .words z, c .faces z)

@@ -1,4 +1,3 @@
 -- Laws of filling ring lists.
-pub mod Storing
 pub mod Lists
 pub mod Answers

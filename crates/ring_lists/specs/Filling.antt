@@ -9,7 +9,8 @@ use Rattle.laws.specs.Refusals.{Answer, refused, done, refusal, answer, filled}
 use Rattle.mesh.specs.Model.{Model}
 use Rattle.mesh.specs.Rings.{ringWords}
 use Rattle.mesh.specs.Acceptance.{checkTable, facesIn, workNeeded}
-use Rattle.snap.specs.Weld.{weldedAll, weldedBy}
+use Rattle.snap.specs.Weld.{weldedBy}
+use Rattle.welding.specs.Used.{weldsOf}
 use Rattle.ring_lists.specs.declared.RingsAnswer.{RingsAnswer}
 use Rattle.ring_lists.specs.declared.RingsAnswer.the-variants.{Refused, Words}
 
@@ -19,7 +20,7 @@ rawRings m = ringWords (facesIn m)
 
 -- the same in welded numbers
 unfoldable pub weldedRings : Model → List ℕ
-weldedRings m = map (weldedBy (weldedAll (m .coords) (m .tolerance))) (rawRings m)
+weldedRings m = map (weldedBy (weldsOf m)) (rawRings m)
 
 -- 5 to 11, then 4: a list under R words
 abbrev pub fillTable : Model → ℕ → ℕ → ℕ → List (ℕ × Bool)

@@ -1,16 +1,9 @@
 // Filling the two ring lists of a model, raw and welded.
 ghost use mathlib.Core.Path.{_≡_};
-ghost use mathlib.Core.Bool.{false};
-ghost use mathlib.Core.List.{map};
-ghost use Prim.Native.Nat.{_+_, _*_, _≤_, _<_, _^_};
-ghost use lib.ListN.{length, getD};
-ghost use lib.Seq.{sets};
-ghost use Rattle.laws.specs.Merging.{region, AllBelow};
-ghost use Rattle.geometry.specs.Coordinates.{nodeCount, coordinatesOff};
+ghost use Prim.Native.Nat.{_≤_};
+ghost use lib.ListN.{length};
 ghost use Rattle.mesh.specs.Model.{modelOf};
 ghost use Rattle.mesh.specs.Acceptance.{modelRefusal, workNeeded};
-ghost use Rattle.snap.specs.Weld.{weldedAll};
-ghost use Rattle.snap.specs.Steps.{But};
 ghost use Rattle.ring_lists.specs.Filling.{rawRings, Filling};
 ghost use Rattle.ring_lists.specs.Steps.{Stored};
 
@@ -18,28 +11,6 @@ ghost use Rattle.ring_lists.specs.Steps.{Stored};
 pub enum RingsAnswer {
     Refused(u8),
     Words(u32),
-}
-
-// All n nodes welded: their numbers stand in work from 2n on.
-pub fn weld_all(coords: &[f64], tol: f64, work: &mut [u32], n: usize)
-    requires { ⌜ (n ≡ nodeCount (now coords)) × (3 * n ≤ length (now work)) × (n < 2 ^ 32) × (coordinatesOff (now coords) ≡ false) ⌝ }
-    ensures { λ _. ⌜ (region (n + n) n (now (work .exit)) ≡ weldedAll (now (coords .entry)) tol) × But 0 (n + n + n) (now (work .entry)) (now (work .exit)) ⌝ }
-{
-    snap::number(work, 0, n);
-    snap::weld_in(coords, tol, work, 0, n, n + n, n, n);
-}
-
-// Each of the words through the map that stands in work from o on.
-fn put_through(words: &[u32], work: &[u32], o: usize, n: usize, out: &mut [u32])
-    requires { ⌜ (length (now words) ≤ length (now out)) × AllBelow n (now words) × (o + n ≤ length (now work)) ⌝ }
-    ensures { λ _. ⌜ now (out .exit) ≡ sets (now (out .entry)) 0 (map (λ k. getD (now (work .entry)) (o + k) 0) (now (words .entry))) ⌝ }
-{
-    let mut i = 0;
-    while i < words.len() {
-        let k = mesh::wide(words[i]);
-        out[i] = work[o + k];
-        i += 1;
-    }
 }
 
 // The lists of an accepted model, with room for them; `need` words of work end zero.
@@ -60,8 +31,8 @@ fn store(
 {
     let n = coords.len() / 3;
     let r = rings::put_cells(kinds, ends, words, raw, 0);
-    weld_all(coords, tol, work, n);
-    put_through(&raw[0..r], work, n + n, n, welded);
+    welding::weld_named(coords, words, tol, work, n);
+    welding::put_welded(&raw[0..r], work, n + n, n, welded);
     snap::clear(work, 0, need);
 }
 

@@ -10,4 +10,3 @@ pub mod Marks
 pub mod Taking
 pub mod Turn
 pub mod Whole
-pub mod Answers

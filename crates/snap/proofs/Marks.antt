@@ -53,6 +53,11 @@ module _ (k size v : ℕ) where
   take-put [] l = refl
   take-put (x ∷ G) l = take-put G (set l (k + x) v) ∙ take-set-le k l (k + x) v (omega arith)
 
+  -- the length stays
+  pub length-put : (G l : List ℕ) → length (putAll k v G l) ≡ length l
+  length-put [] l = refl
+  length-put (x ∷ G) l = length-put G (set l (k + x) v) ∙ length-set l (k + x) v
+
   -- what lies behind them stays
   pub drop-put : (G l : List ℕ) → AllBelow size G → drop (k + size) (putAll k v G l) ≡ drop (k + size) l
   drop-put [] l h = refl

@@ -152,10 +152,12 @@ module _ {c : List Float} {t : Float} {l : List ℕ} {a s k n size : ℕ} (L : L
         let o : But s (k + size) l₂ w = rw (← v-is) (b .1) in
         rw p (settled w (m ∙ v-length) e o z, settled-but w (m ∙ v-length) e o)
 
-  -- with tolerance 0 each node has its own number
-  pub unwelded : {x : List ℕ} → x ≡ sets l k (upFrom 0 size) → eq t zero64 ≡ true → (region k size x ≡ welded c t size (region a n l)) × But a (k + size) l x
-  unfolding welded
-  unwelded p z = rw (p, z) (run-there l (upFrom 0 size) 0 k size (length-upFrom 0 size) (L .marks), run-but l (upFrom 0 size) a k size (length-upFrom 0 size) (omega arith))
+-- with tolerance 0 each node has its own number, whichever are to be welded
+pub unwelded : (c : List Float) (t : Float) (ns l x : List ℕ) (k size : ℕ) → k + size ≤ length l → x ≡ sets l k (upFrom 0 size) → eq t zero64 ≡ true
+    → (region k size x ≡ welded c t size ns) × But 0 (k + size) l x
+unfolding welded
+unwelded c t ns l x k size h p z =
+    rw (p, z) (run-there l (upFrom 0 size) 0 k size (length-upFrom 0 size) h, run-but l (upFrom 0 size) 0 k size (length-upFrom 0 size) (omega arith))
 
 -- a welded number for each node
 pub length-welded : (c : List Float) (t : Float) (n : ℕ) (ns : List ℕ) → length (welded c t n ns) ≡ n

@@ -1,4 +1,3 @@
--- Welded numbers, and the welding operation. Steps is for internal contracts only.
+-- Welded numbers over a list of nodes. Steps is for internal contracts only.
 pub mod Weld
-pub mod Welding
 pub mod Steps

@@ -9,7 +9,6 @@ use Rattle.laws.specs.Lists.{onlyIf, fold, elem, sort, upFrom}
 use Rattle.floats.specs.Floats.{zero64}
 use Rattle.geometry.specs.declared.Point.{Point}
 use Rattle.geometry.specs.Points.{pointSub, pointDot, pointAt}
-use Rattle.geometry.specs.Coordinates.{nodeCount}
 
 -- ---- the order on nodes
 
@@ -68,10 +67,6 @@ spread gs l = fold (λ k g. give (least g) g k) l gs
 unfoldable pub welded : List Float → Float → ℕ → List ℕ → List ℕ
 welded c t size nodes =
     cond (eq t zero64) (upFrom 0 size) (spread (groups c t (λ n. false) (sort (beforeOf c) nodes)) (upFrom 0 size))
-
--- over all nodes
-unfoldable pub weldedAll : List Float → Float → List ℕ
-weldedAll c t = welded c t (nodeCount c) (upFrom 0 (nodeCount c))
 
 -- the number that a map gives a node
 abbrev pub weldedBy : List ℕ → ℕ → ℕ

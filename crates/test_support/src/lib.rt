@@ -56,6 +56,17 @@ pub fn read_coords(s: &[u8], from: usize, coords: &mut [f64], n: usize)
     }
 }
 
+// The first n of words become those that start at a place, four bytes each.
+pub fn read_words(s: &[u8], from: usize, words: &mut [u32], n: usize)
+    requires { ⌜ (from + 4 * n ≤ length (now s)) × (n ≤ length (now words)) ⌝ }
+{
+    let mut i = 0;
+    while i < n {
+        words[i] = four(s, from + 4 * i) as u32;
+        i += 1;
+    }
+}
+
 // ---- lines
 
 pub fn say(text: &[u8]) {

@@ -2,7 +2,7 @@
 
 use std::time::Instant;
 
-use crate::families::FAMILIES;
+use crate::families::{FAMILIES, made};
 use crate::finding::{difference, reported, tied};
 use crate::generate;
 use crate::handed;
@@ -10,7 +10,9 @@ use crate::mesh::UMeshView;
 use crate::model::Model;
 use crate::others;
 use crate::ours;
-use crate::reference::{ConformanceChecks, ConformanceOptions, ConformanceReport, is_conform_with};
+use crate::reference::{
+    ConformanceChecks, ConformanceOptions, ConformanceReport, is_conform_with, welded,
+};
 use crate::rng::Rng;
 use crate::way::{self, Figures, Way};
 
@@ -22,7 +24,7 @@ const TRIPLE_WORK_MOST: usize = 4_000_000;
 const ROOTS: usize = 1_000_000;
 
 /// The largest models, and random ones of some thousands of cells.
-const LARGE: [&str; 14] = [
+const LARGE: [&str; 15] = [
     "grid 16 16 64",
     "tets 13 14 15",
     "tets5 12 13 21",
@@ -37,6 +39,7 @@ const LARGE: [&str; 14] = [
     "soup4 16384 60",
     "soup4 16384 5000",
     "soup8 4000 200",
+    "loose 65535 25",
 ];
 
 /// The reference's report by a way, and its figures where it was asked for a way and sought pairs.
@@ -62,6 +65,9 @@ struct Tally {
     forced: usize,
     owners: usize,
     areas: usize,
+    loose: usize,
+    telling: usize,
+    telling_used: usize,
 }
 
 impl Tally {
@@ -78,6 +84,21 @@ impl Tally {
         self.forced += other.forced;
         self.owners += other.owners;
         self.areas += other.areas;
+        self.loose += other.loose;
+        self.telling += other.telling;
+        self.telling_used += other.telling_used;
+    }
+
+    /// Counts a model with a loose node; whether its map would be another if all nodes were welded, and a used node's number.
+    fn loose_nodes(&mut self, m: &Model, map: &[usize]) {
+        let named = m.named();
+        if named.iter().all(|&n| n) {
+            return;
+        }
+        let all = welded(&UMeshView::new(&m.all_named()), m.tolerance);
+        self.loose += 1;
+        self.telling += (all != map) as usize;
+        self.telling_used += (0..all.len()).any(|n| named[n] && all[n] != map[n]) as usize;
     }
 
     /// Counts the way that the source takes; the other one, and whether it can be forced.
@@ -119,7 +140,9 @@ fn print_head() {
 /// Everything that is compared on a model; what differs.
 fn compared(m: &Model, rng: &mut Rng, t: &mut Tally) -> Result<(), String> {
     let mut mesh = UMeshView::new(m);
-    mesh.handed = Some(handed::of(m, &mesh, rng)?);
+    let handed = handed::of(m, &mesh, rng)?;
+    t.loose_nodes(m, &handed.map);
+    mesh.handed = Some(handed);
     others::file(m)?;
     t.areas += others::area(m, &mesh, rng)?;
     let ours = ours::findings(m, rng)?;
@@ -166,12 +189,12 @@ fn size(rng: &mut Rng) -> usize {
 
 /// Small models of a family, by their number.
 fn small(seed: u64, place: usize, models: usize) -> Tally {
-    let (name, make) = FAMILIES[place];
+    let (name, _) = FAMILIES[place];
     let mut t = Tally::default();
     for number in 0..models {
         let mut rng = Rng(seed ^ ((place as u64 + 1) << 40) ^ number as u64);
         let cells = size(&mut rng);
-        let m = make(&mut rng, cells);
+        let m = made(FAMILIES[place], &mut rng, cells);
         count(&m, &mut rng, &format!("{name} {number}"), &mut t);
     }
     t.print(name);
@@ -181,12 +204,13 @@ fn small(seed: u64, place: usize, models: usize) -> Tally {
 /// Two models of some thousands of cells of each family.
 fn large(seed: u64) -> Tally {
     let mut t = Tally::default();
-    for (name, make) in FAMILIES {
+    for family in FAMILIES {
         for number in 0..2 {
             let mut rng = Rng(seed ^ number);
             let cells = 1000 + rng.below(3000);
-            let m = make(&mut rng, cells);
-            count(&m, &mut rng, &format!("{name}, large {number}"), &mut t);
+            let m = made(family, &mut rng, cells);
+            let name = format!("{}, large {number}", family.0);
+            count(&m, &mut rng, &name, &mut t);
         }
     }
     t.print("thousands of cells");
@@ -223,6 +247,10 @@ pub fn run(seed: u64, models: usize) -> bool {
     println!(
         "{} area tests and {} lists of owners compared",
         whole.areas, whole.owners
+    );
+    println!(
+        "{} models have a loose node: with all nodes welded {} would have another map, {} another number for a used node",
+        whole.loose, whole.telling, whole.telling_used
     );
     println!("{} s", start.elapsed().as_secs());
     println!("{} models: {} agree", whole.models, whole.agree);

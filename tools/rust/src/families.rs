@@ -3,6 +3,7 @@
 use crate::generate::{
     box_rings, grid, hub, prisms, push_five_tets, push_six_tets, push_wedges, same,
 };
+use crate::loose::{scattered, sprinkled};
 use crate::model::{MAX_CELLS, Model, SEPARATOR};
 use crate::rng::Rng;
 use crate::thresholds::{collinear, crossings};
@@ -10,7 +11,7 @@ use crate::thresholds::{collinear, crossings};
 /// A name, and a model of about that many cells.
 pub type Family = (&'static str, fn(&mut Rng, usize) -> Model);
 
-pub const FAMILIES: [Family; 10] = [
+pub const FAMILIES: [Family; 11] = [
     ("soups", soups),
     ("grids", grids),
     ("near-duplicate nodes", near),
@@ -21,7 +22,14 @@ pub const FAMILIES: [Family; 10] = [
     ("overfull faces", overfull),
     ("PHED edge cases", polyhedra),
     ("many common nodes", many_common),
+    ("loose nodes", loose),
 ];
+
+/// A model of a family, with loose nodes put among its nodes every so often.
+pub fn made((_, make): Family, rng: &mut Rng, cells: usize) -> Model {
+    let m = make(rng, cells);
+    sprinkled(rng, m)
+}
 
 /// Scales and moves the nodes, and sets tolerance, flags and cap.
 pub fn finish(rng: &mut Rng, mut m: Model) -> Model {
@@ -63,7 +71,7 @@ pub fn push_lattice_nodes(m: &mut Model, rng: &mut Rng, n: usize) {
 }
 
 /// Cells of all kinds on nodes drawn from a few, or from a window of many.
-fn soups(rng: &mut Rng, cells: usize) -> Model {
+fn soup(rng: &mut Rng, cells: usize) -> Model {
     let mut m = Model::default();
     let n = rng.pick(&[8, 9, 12, 20, 60, 8 + cells, 8 + 3 * cells]);
     push_lattice_nodes(&mut m, rng, n);
@@ -82,6 +90,11 @@ fn soups(rng: &mut Rng, cells: usize) -> Model {
             m.push_phed(&[draw(3), draw(4), draw(5), draw(4)]);
         }
     }
+    m
+}
+
+fn soups(rng: &mut Rng, cells: usize) -> Model {
+    let m = soup(rng, cells);
     finish(rng, m)
 }
 
@@ -327,4 +340,21 @@ fn many_common(rng: &mut Rng, cells: usize) -> Model {
         prisms(sides, cells.max(1))
     };
     finish(rng, m)
+}
+
+/// A grid or a soup with nodes about the tolerance apart, and many loose ones about them: one that leads, or takes a node away from
+/// another, would make other groups.
+fn loose(rng: &mut Rng, cells: usize) -> Model {
+    let m = if rng.one_in(2) {
+        near(rng, cells)
+    } else {
+        let mut m = soup(rng, cells);
+        m.sort_kinds();
+        m.tolerance = rng.pick(&[0.001, 0.25, 1.0, 3.0]);
+        let apart = m.tolerance * rng.pick(&[0.5, 0.75, 1.0, 1.25, 1.75]);
+        m.coords.iter_mut().for_each(|c| *c *= apart);
+        flags(rng, m)
+    };
+    let count = 1 + rng.below(2 * m.node_count());
+    scattered(rng, m, count)
 }

@@ -1,5 +1,5 @@
 //! Models to try and to time: grids of each kind, a hub, separate cells, stacks of prisms, rings
-//! over the same nodes, quadrangles with a line in common, random cells.
+//! over the same nodes, quadrangles with a line in common, random cells, a few cells among loose nodes.
 
 use crate::model::{MAX_CELLS, MAX_NODES, MAX_WORDS, Model};
 use crate::rng::Rng;
@@ -28,6 +28,7 @@ pub fn model(text: &str) -> Option<Model> {
         ("prisms", &[sides, n]) => prisms(sides, n),
         ("same", &[sides, n]) => same(sides, n),
         ("line", &[n]) => line(n),
+        ("loose", &[nodes, n]) => loose(nodes, n),
         ("soup4", &[n, nodes]) => soup(1, 4, n, nodes),
         ("soup8", &[n, nodes]) => soup(2, 8, n, nodes),
         ("rings6", &[n, nodes]) => soup(4, 6, n, nodes),
@@ -233,6 +234,30 @@ pub fn line(n: usize) -> Model {
     for cell in 0..n.min(MAX_CELLS + 1) {
         let own = m.push_node([1.0, 1.0, cell as f64]);
         m.push_phed(&[[&common[..], &[own]].concat()]);
+    }
+    m
+}
+
+/// Separate tetrahedra behind loose nodes: so many nodes in all. No two loose nodes are within the tolerance, but every two are by
+/// their x, so welding them too would compare each with each.
+fn loose(nodes: usize, n: usize) -> Model {
+    let mut m = Model::default();
+    if nodes > MAX_NODES || nodes < 4 * n {
+        return m;
+    }
+    for node in 0..nodes - 4 * n {
+        m.push_node([0.0, (node % 256) as f64, (node / 256) as f64]);
+    }
+    for cell in 0..n {
+        let x = 2.0 * cell as f64;
+        let corners = [
+            [x, 0.0, 0.0],
+            [x + 1.0, 0.0, 0.0],
+            [x, 1.0, 0.0],
+            [x, 0.0, 1.0],
+        ];
+        let t = corners.map(|p| m.push_node(p));
+        m.push_cell(1, &t);
     }
     m
 }

@@ -14,7 +14,7 @@ fn map(m: &Model) -> Result<Vec<u32>, String> {
     let nodes = m.node_count();
     let mut map = vec![0; nodes];
     let mut scratch = vec![170; 3 * nodes];
-    lenoshale::weld(&m.coords, m.tolerance, &mut map, &mut scratch)
+    lenoshale::weld(m.lent(), &mut map, &mut scratch)
         .map_err(|n| format!("welding refused {n}"))?;
     match scratch.iter().all(|&w| w == 0) {
         true => Ok(map),

@@ -26,7 +26,8 @@ unsafe extern "C" {
     fn lenoshale_face_owners(coords: *const f64, coords_len: usize, kinds: *const u8, kinds_len: usize, ends: *const u32,
         ends_len: usize, words: *const u32, words_len: usize, tolerance: f64, flags: u8, face: usize, owners: *mut u32,
         owners_len: usize, count: *mut u32) -> u32;
-    fn lenoshale_weld(coords: *const f64, coords_len: usize, tolerance: f64, map: *mut u32, map_len: usize, scratch: *mut u32,
+    fn lenoshale_weld(coords: *const f64, coords_len: usize, kinds: *const u8, kinds_len: usize, ends: *const u32, ends_len: usize,
+        words: *const u32, words_len: usize, tolerance: f64, map: *mut u32, map_len: usize, scratch: *mut u32,
         scratch_len: usize) -> u32;
     fn lenoshale_area_test(coords: *const f64, coords_len: usize, nodes: *const u32, nodes_len: usize, tolerance: f64,
         says: *mut u32) -> u32;
@@ -37,7 +38,7 @@ unsafe extern "C" {
 }
 
 /// The interface that this wrapper declares; version() is the linked library's.
-pub const VERSION: u32 = 1;
+pub const VERSION: u32 = 2;
 /// Bytes of a file's record, the most words that it holds, and the most records of a file.
 pub const FILE_RECORD: usize = 32;
 pub const FILE_RECORD_WORDS: usize = 14;
@@ -206,11 +207,12 @@ pub fn face_owners(m: Lent, face: usize, owners: &mut [u32]) -> Result<usize, u3
     told(answer, count as usize)
 }
 
-/// The welded numbers of all nodes go to the first words of the map.
-pub fn weld(coords: &[f64], tolerance: f64, map: &mut [u32], scratch: &mut [u32]) -> Result<(), u32> {
+/// The welded numbers of all nodes go to the first words of the map, a loose node's its own. The flags are not asked.
+pub fn weld(m: Lent, map: &mut [u32], scratch: &mut [u32]) -> Result<(), u32> {
     #[rustfmt::skip]
     let answer = unsafe {
-        lenoshale_weld(coords.as_ptr(), coords.len(), tolerance, map.as_mut_ptr(), map.len(), scratch.as_mut_ptr(), scratch.len())
+        lenoshale_weld(m.coords.as_ptr(), m.coords.len(), m.kinds.as_ptr(), m.kinds.len(), m.ends.as_ptr(), m.ends.len(),
+            m.words.as_ptr(), m.words.len(), m.tolerance, map.as_mut_ptr(), map.len(), scratch.as_mut_ptr(), scratch.len())
     };
     told(answer, ())
 }

@@ -8,6 +8,7 @@ mod generate;
 mod handed;
 #[allow(dead_code)]
 mod lenoshale;
+mod loose;
 mod mesh;
 mod model;
 mod nd;

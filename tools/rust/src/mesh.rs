@@ -3,6 +3,7 @@
 
 use std::collections::BTreeMap;
 
+use crate::fx::FxHashSet;
 use crate::model::{Model, SEPARATOR};
 use crate::nd;
 
@@ -170,11 +171,15 @@ impl<'a> UMeshView<'a> {
             .flat_map(|(&et, block)| (0..block.ends.len()).map(move |i| block.get(et, i)))
     }
 
-    /// The nodes that are welded: all of them.
-    pub fn used_nodes(&self) -> Vec<usize> {
-        (0..self.coords.nrows()).collect()
+    fn elements(&self) -> impl Iterator<Item = Element<'_>> {
+        self.element_blocks
+            .iter()
+            .flat_map(|(&et, block)| (0..block.ends.len()).map(move |i| block.get(et, i)))
     }
 }
+
+// `used_nodes`, the nodes that are welded.
+include!(concat!(env!("EXTRACTED"), "/used_nodes.rs"));
 
 /// Rows of unequal length, one after the other.
 pub struct IndirectIndexOwned<T> {

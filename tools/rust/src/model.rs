@@ -65,6 +65,28 @@ impl Model {
         &self.words[start as usize..self.ends[cell] as usize]
     }
 
+    /// Of each node whether some cell names it.
+    pub fn named(&self) -> Vec<bool> {
+        let mut named = vec![false; self.node_count()];
+        for &w in self.words.iter().filter(|w| **w != SEPARATOR) {
+            named[w as usize] = true;
+        }
+        named
+    }
+
+    /// The same nodes and tolerance, with one PHED that names all nodes.
+    pub fn all_named(&self) -> Model {
+        let nodes: Vec<u32> = (0..self.node_count() as u32).collect();
+        let mut all = Model {
+            coords: self.coords.clone(),
+            tolerance: self.tolerance,
+            ..Model::default()
+        };
+        let runs: Vec<Vec<u32>> = nodes.chunks(MAX_RING).map(<[u32]>::to_vec).collect();
+        all.push_phed(&runs);
+        all
+    }
+
     /// Puts the cells in the order of their kinds, each kind in its old order.
     pub fn sort_kinds(&mut self) {
         let mut order: Vec<usize> = (0..self.kinds.len()).collect();

@@ -1,9 +1,10 @@
 //! The source's answers written into the lists of crate numbers: the welded numbers of node sets, and whether nodes span an area.
 //!
 //! A list is entries one after the other: the length of a name in a byte, the name, a size in 4 bytes, the entry. Both kinds begin with
-//! two numbers of 4 bytes, the first the number of nodes, the tolerance and three coordinates a node. A set ends with a welded number a
-//! node, 4 bytes each; an area test with as many listed nodes as its second number says, 4 bytes each, document 01's answer in a byte,
-//! and the source's. All little-endian. What tools/weld_sets.py and tools/area_sets.py wrote there is their own reading's.
+//! two numbers of 4 bytes, the first the number of nodes, the tolerance and three coordinates a node. In a set as many words follow as its
+//! second number says, 4 bytes each, the words of one PHED; it ends with a welded number a node, 4 bytes each. In an area test as many
+//! listed nodes follow as its second number says, 4 bytes each; it ends with document 01's answer in a byte, and the source's. All
+//! little-endian. What tools/weld_sets.py and tools/area_sets.py wrote there is their own reading's.
 
 use std::fs;
 use std::ops::Range;
@@ -44,9 +45,19 @@ fn nodes(entry: &[u8]) -> (Model, usize) {
     (model, behind)
 }
 
+/// The numbers from a place on, as many as the second number of the entry says, and where they end.
+fn listed(entry: &[u8], from: usize) -> (Vec<u32>, usize) {
+    let to = from + 4 * number(entry, 4);
+    let list = (from..to).step_by(4).map(|at| number(entry, at) as u32);
+    (list.collect(), to)
+}
+
 /// Writes the welded numbers of a set.
 fn weld(entry: &mut [u8]) {
-    let (model, behind) = nodes(entry);
+    let (mut model, behind) = nodes(entry);
+    let (words, behind) = listed(entry, behind);
+    model.push_cell(4, &words);
+    assert!(model.is_sound());
     let map = reference::welded(&UMeshView::new(&model), model.tolerance);
     let bytes: Vec<u8> = map.iter().flat_map(|&n| (n as u32).to_le_bytes()).collect();
     entry[behind..].copy_from_slice(&bytes);
@@ -56,11 +67,8 @@ fn weld(entry: &mut [u8]) {
 fn area(entry: &mut [u8]) {
     let (model, behind) = nodes(entry);
     let last = entry.len() - 1;
-    let listed: Vec<u32> = (behind..last - 1)
-        .step_by(4)
-        .map(|at| number(entry, at) as u32)
-        .collect();
-    assert_eq!(listed.len(), number(entry, 4));
+    let (listed, behind) = listed(entry, behind);
+    assert_eq!(behind, last - 1);
     entry[last] = reference::spans(&UMeshView::new(&model), &listed, model.tolerance) as u8;
 }
 

@@ -78,12 +78,29 @@ fn rings(m: Lent, needs: Needs) {
     assert_eq!((lenoshale::face_owners(m, 10, &mut owners), owners), (Err(12), [1, 7]));
 }
 
-fn nodes() {
+/// Nodes in a line that one cell names; a loose node that would lead two of a tetrahedron's, which are farther apart than the tolerance.
+fn welding() {
     let line = [0.0, 0.0, 0.0, 0.75, 0.0, 0.0, 1.5, 0.0, 0.0];
+    let m = Lent { coords: &line, kinds: &[4], ends: &[3], words: &[0, 1, 2], tolerance: 1.0, flags: 255 };
     let (mut map, mut scratch) = ([7; 4], [7; 10]);
-    assert_eq!((lenoshale::weld(&line, 1.0, &mut map, &mut scratch[..8]), map), (Err(4), [7; 4]));
-    assert_eq!((lenoshale::weld(&line, 1.0, &mut map, &mut scratch), map), (Ok(()), [0, 0, 2, 7]));
+    assert_eq!(lenoshale::weld(m, &mut map, &mut scratch[..8]), Err(4));
+    assert_eq!(lenoshale::weld(m, &mut map[..2], &mut scratch), Err(4));
+    assert_eq!(lenoshale::weld(Lent { kinds: &[], ends: &[], words: &[], ..m }, &mut map[..2], &mut scratch), Err(8));
+    assert_eq!(lenoshale::weld(Lent { kinds: &[5], ..m }, &mut map[..2], &mut scratch), Err(9));
+    assert_eq!(lenoshale::weld(Lent { words: &[0, 1, 3], ..m }, &mut map[..2], &mut scratch), Err(9));
+    assert_eq!((map, scratch), ([7; 4], [7; 10]));
+    assert_eq!((lenoshale::weld(m, &mut map, &mut scratch), map), (Ok(()), [0, 0, 2, 7]));
     assert_eq!(scratch, [0, 0, 0, 0, 0, 0, 0, 0, 0, 7]);
+    let leads = [0.0, 0.0, 0.0, 0.5, 0.75, 0.0, 0.5, -0.75, 0.0, 0.0, 9.0, 0.0, 9.0, 9.0, 0.0];
+    let loose = Lent { coords: &leads, kinds: &[1], ends: &[4], words: &[1, 2, 3, 4], ..m };
+    let (mut map, mut scratch) = ([7; 5], [7; 15]);
+    assert_eq!((lenoshale::weld(loose, &mut map, &mut scratch), map), (Ok(()), [0, 1, 2, 3, 4]));
+    let dropped = Lent { kinds: &[4], ends: &[6], words: &[0, u32::MAX, 1, 2, 3, 4], ..loose };
+    assert_eq!((lenoshale::weld(dropped, &mut map, &mut scratch), map), (Ok(()), [0, 0, 0, 3, 4]));
+    assert_eq!(scratch, [0; 15]);
+}
+
+fn nodes() {
     let corner = [0.0, 0.0, 0.0, 1.0, 0.0, 0.0, 0.0, 0.5, 0.0];
     assert_eq!(lenoshale::area_test(&corner, &[0, 1, 2], 0.5), Ok(Area::Thin));
     assert_eq!(lenoshale::area_test(&corner, &[0, 1, 2], 0.25), Ok(Area::Spans));
@@ -116,6 +133,7 @@ fn main() -> std::io::Result<()> {
     write(m, found.cap, &bytes);
     check(m, found.cap, needs);
     rings(m, needs);
+    welding();
     nodes();
     run(&bytes);
     println!("12 operations and the version answer as they must");

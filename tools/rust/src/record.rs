@@ -7,7 +7,7 @@
 use std::fs;
 
 use crate::compare::reference;
-use crate::families::{FAMILIES, Family};
+use crate::families::{FAMILIES, Family, made};
 use crate::finding::{Finding, difference, reported};
 use crate::handed;
 use crate::mesh::UMeshView;
@@ -70,7 +70,7 @@ fn entry(m: &Model, rng: &mut Rng) -> Option<(Vec<u8>, usize)> {
 }
 
 /// The entries of a family. Where a way is rare in small models, the other makes up for it.
-fn chosen((_, make): Family, rng: &mut Rng, counts: &mut [usize; 3]) -> Vec<Vec<u8>> {
+fn chosen(family: Family, rng: &mut Rng, counts: &mut [usize; 3]) -> Vec<Vec<u8>> {
     let mut left = WANTED;
     let mut entries = Vec::new();
     for tried in 0.. {
@@ -78,7 +78,7 @@ fn chosen((_, make): Family, rng: &mut Rng, counts: &mut [usize; 3]) -> Vec<Vec<
             break;
         }
         let cells = 1 + rng.below(14);
-        let mut m = make(rng, cells);
+        let mut m = made(family, rng, cells);
         m.cap = u16::MAX;
         let Some((bytes, way)) = entry(&m, rng) else {
             continue;

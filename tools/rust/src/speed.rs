@@ -11,7 +11,7 @@ use crate::reference::{ConformanceChecks, ConformanceOptions, is_conform_with};
 use crate::way::{self, Way};
 
 /// A model and one of about a quarter of its cells.
-const MODELS: [[&str; 2]; 12] = [
+const MODELS: [[&str; 2]; 13] = [
     ["grid 16 16 64", "grid 16 16 16"],
     ["tets 13 14 15", "tets 7 7 14"],
     ["wedges 16 16 32", "wedges 16 16 8"],
@@ -24,6 +24,7 @@ const MODELS: [[&str; 2]; 12] = [
     ["rings6 16000 300", "rings6 4000 300"],
     ["rings6 16000 3000", "rings6 4000 3000"],
     ["line 16384", "line 4096"],
+    ["loose 65535 25", "loose 16384 6"],
 ];
 
 /// Models whose files are read and written.

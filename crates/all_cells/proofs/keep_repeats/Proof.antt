@@ -9,7 +9,7 @@ use Rattle.laws.specs.Lists.{each, upFrom}
 use Rattle.laws.specs.Merging.{AllBelow}
 use Rattle.floats.specs.Floats.{zero64}
 use Rattle.index.specs.Faces.{input}
-use Rattle.repeats.specs.Marks.{nodesIn}
+use Rattle.mesh.specs.Rings.{nodesIn}
 use Rattle.layout.specs.Tables.{Still}
 use Rattle.layout.specs.ByCell.{plainRules, repeatCell}
 use Rattle.layout.specs.Kept.{KeptAny}

@@ -9,7 +9,7 @@ use lib.ListN.{length}
 use Rattle.laws.specs.Limits.{cellLimit, wordLimit}
 use Rattle.mesh.specs.Model.{modelOf}
 use Rattle.mesh.proofs.Accepts.{accepts}
-use Rattle.ring_lists.proofs.Lists.{few-nodes}
+use Rattle.mesh.proofs.CellWords.{few-nodes}
 use Rattle.capi.proofs.CheckExports.{work-refused, work-done}
 
 accept-requires : tie.Need-accept-requires
@@ -32,7 +32,7 @@ work-needed-requires c κs =
     let t = c .before .before .accept in
     let ok = sym (t .ensures .refusal) ∙ c .if1 .left in
     let k = accepts m ok in
-    (t .ensures .small, t .ensures .few, omega (arith, ltb-false cellLimit (length (a .kinds .now)) (k .cells)), omega (arith, few-nodes m ok), omega (arith, ltb-false wordLimit (length (a .words .now)) (k .words)))
+    (t .ensures .small, t .ensures .few, omega (arith, ltb-false cellLimit (length (a .kinds .now)) (k .cells)), omega (arith, few-nodes m k), omega (arith, ltb-false wordLimit (length (a .words .now)) (k .words)))
 
 returns-2 : tie.Need-returns-2
 returns-2 c =

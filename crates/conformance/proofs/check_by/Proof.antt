@@ -13,8 +13,8 @@ use Rattle.mesh.specs.Model.{Model, modelOf}
 use Rattle.mesh.specs.Acceptance.{modelRefusal, workNeeded}
 use Rattle.mesh.proofs.Accepts.{accepts}
 use Rattle.seek.proofs.Tallies.{tallied-as}
-use Rattle.ring_lists.proofs.Lists.{few-nodes}
-use Rattle.ring_lists.proofs.Answers.{work-is}
+use Rattle.mesh.proofs.CellWords.{few-nodes}
+use Rattle.mesh.proofs.Accepted.{work-is}
 use Rattle.conformance.proofs.Answers.{row-model, row-work, row-none, checked-so, cap-refusal, cap-work, cap-kept}
 use Rattle.conformance.proofs.Ways.{refused-by, checked-by, cap-way, cap-sought}
 use Rattle.conformance.proofs.check_by.Statement.{statement}
@@ -80,7 +80,7 @@ work-needed-requires c κs =
     let t = q .accept .ensures in
     let ok = sym (t .refusal) ∙ c .if1 .left in
     let k = accepts m ok in
-    (t .small, t .few, omega (arith, ltb-false cellLimit (length (a .kinds .now)) (k .cells)), omega (arith, few-nodes m ok), omega (arith, ltb-false wordLimit (length (a .words .now)) (k .words)))
+    (t .small, t .few, omega (arith, ltb-false cellLimit (length (a .kinds .now)) (k .cells)), omega (arith, few-nodes m k), omega (arith, ltb-false wordLimit (length (a .words .now)) (k .words)))
 
 refused-requires-2 : tie.Need-refused-requires-2
 refused-requires-2 c κs = search needs

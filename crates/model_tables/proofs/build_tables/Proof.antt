@@ -10,7 +10,7 @@ use Rattle.mesh.specs.Steps.{ringTotal}
 use Rattle.model_tables.proofs.Contents.{Settled, RingTables, Marked, Tabled, Cleared}
 use Rattle.model_tables.proofs.Ringing.{sets-are}
 use Rattle.model_tables.proofs.Stages.{rings-part, rings-put, marks-put, nodes-put}
-use Rattle.model_tables.proofs.Building.{cells, settled, zeros-put, placed-again, built}
+use Rattle.model_tables.proofs.Building.{cells, welds-are, settled, zeros-put, placed-again, built}
 use Rattle.model_tables.proofs.Asking.{asks-plan, asks-weld, inside, asks-rings, asks-marks, asks-nodes, asks-zeros}
 use Rattle.model_tables.proofs.build_tables.Statement.{statement}
 use Rattle.model_tables.proofs.build_tables.Tie as tie
@@ -30,11 +30,11 @@ planned-at : (c : tie.After-plan) → Settled (model (c .before .before .before 
 planned-at c = let s = c .before .before .before .before .before .before in settled (model s) (s .pre .0) (s .args .t) (s .pre .1 .0) 0 (c .plan .result) (c .plan .ensures)
 
 -- the slice keeps its room
-room-weld : (c : tie.After-put-weld) → workNeeded (model (c .before .before .before .before .before .before .before .before)) ≤ length (c .put-weld .last .1 .1 .0)
-room-weld c = kept (c .before .before .before .before .before .before .before .before .args .work .now) (c .put-weld .last .1 .1 .0) (c .put-weld .kept .1 .1 .0) (c .before .before .before .before .before .before .before .before .pre .1 .1)
+room-weld : (c : tie.After-put-weld) → workNeeded (model (c .before .before .before .before .before .before .before .before)) ≤ length (c .put-weld .last .1 .1 .1 .0)
+room-weld c = kept (c .before .before .before .before .before .before .before .before .args .work .now) (c .put-weld .last .1 .1 .1 .0) (c .put-weld .kept .1 .1 .1 .0) (c .before .before .before .before .before .before .before .before .pre .1 .1)
 
 room-rings : (c : tie.After-put-rings) → workNeeded (model (c .before .before .before .before .before .before .before .before .before .before .before .before)) ≤ length (c .put-rings .last .1 .1 .1 .0)
-room-rings c = kept (c .before .before .before .before .put-weld .last .1 .1 .0) (c .put-rings .last .1 .1 .1 .0) (c .put-rings .kept .1 .1 .1 .0) (room-weld (c .before .before .before .before))
+room-rings c = kept (c .before .before .before .before .put-weld .last .1 .1 .1 .0) (c .put-rings .last .1 .1 .1 .0) (c .put-rings .kept .1 .1 .1 .0) (room-weld (c .before .before .before .before))
 
 room-marks : (c : tie.After-put-marks) → workNeeded (model (c .before .before .before .before .before .before .before .before .before .before .before .before .before .before .before .before)) ≤ length (c .put-marks .last .1 .1 .1 .1 .1 .0)
 room-marks c = kept (c .before .before .before .before .put-rings .last .1 .1 .1 .0) (c .put-marks .last .1 .1 .1 .1 .1 .0) (c .put-marks .kept .1 .1 .1 .1 .1 .0) (room-rings (c .before .before .before .before))
@@ -52,8 +52,8 @@ rings-at c =
     let m = model s in
     let l = c .before .before .before .before .before .before .plan .result in
     let z = planned-at (c .before .before .before .before .before .before) in
-    let e = inside m (s .pre .0) 0 l z (c .before .before .before .before .put-weld .last .1 .1 .0) (room-weld (c .before .before .before .before)) in
-    rings-put (m .coords) (m .tolerance) (cells m (s .pre .0)) (length (m .words)) 0 l z (c .before .before .before .before .put-weld .last .1 .1 .0) (c .put-rings .last .1 .1 .1 .0) (e .bows) (c .before .before .before .before .put-weld .ensures) (c .put-rings .ensures)
+    let e = inside m (s .pre .0) 0 l z (c .before .before .before .before .put-weld .last .1 .1 .1 .0) (room-weld (c .before .before .before .before)) in
+    rings-put (m .coords) (m .tolerance) (cells m (s .pre .0)) (length (m .words)) 0 l z (c .before .before .before .before .put-weld .last .1 .1 .1 .0) (c .put-rings .last .1 .1 .1 .0) (e .bows) (c .before .before .before .before .put-weld .ensures ∙ welds-are m (s .pre .0)) (c .put-rings .ensures)
 
 marked-at : (c : tie.After-put-marks) → Marked (model (c .before .before .before .before .before .before .before .before .before .before .before .before .before .before .before .before) .coords) (model (c .before .before .before .before .before .before .before .before .before .before .before .before .before .before .before .before) .tolerance) (cells (model (c .before .before .before .before .before .before .before .before .before .before .before .before .before .before .before .before)) (c .before .before .before .before .before .before .before .before .before .before .before .before .before .before .before .before .pre .0)) (c .before .before .before .before .before .before .before .before .before .before .plan .result) (c .put-marks .last .1 .1 .1 .1 .1 .0)
 marked-at c =
@@ -91,7 +91,7 @@ put-weld-requires : tie.Need-put-weld-requires
 put-weld-requires c κs = let s = c .before .before .before .before .before .before .before in asks-weld (model s) (s .pre .0) (s .args .work .now) (s .pre .1 .1)
 
 put-rings-requires : tie.Need-put-rings-requires
-put-rings-requires c κs = let s = c .before .before .before .before .before .before .before .before .before .before .before in asks-rings (model s) (s .pre .0) 0 (c .before .before .before .before .before .plan .result) (planned-at (c .before .before .before .before .before)) (c .before .before .before .put-weld .last .1 .1 .0) (room-weld (c .before .before .before))
+put-rings-requires c κs = let s = c .before .before .before .before .before .before .before .before .before .before .before in asks-rings (model s) (s .pre .0) 0 (c .before .before .before .before .before .plan .result) (planned-at (c .before .before .before .before .before)) (c .before .before .before .put-weld .last .1 .1 .1 .0) (room-weld (c .before .before .before))
 
 put-marks-requires : tie.Need-put-marks-requires
 put-marks-requires c κs =
@@ -113,7 +113,7 @@ plan-requires-2 c κs = let s = c .before .before .before .before .before .befor
 
 same-length : tie.Need-same-length
 same-length c =
-    c .before .before .before .clear-scratch .kept .0 ∙ c .before .before .before .before .before .before .before .put-nodes .kept .0 ∙ c .before .before .before .before .before .before .before .before .before .before .before .put-marks .kept .1 .1 .1 .1 .1 .0 ∙ c .before .before .before .before .before .before .before .before .before .before .before .before .before .before .before .put-rings .kept .1 .1 .1 .0 ∙ c .before .before .before .before .before .before .before .before .before .before .before .before .before .before .before .before .before .before .before .put-weld .kept .1 .1 .0
+    c .before .before .before .clear-scratch .kept .0 ∙ c .before .before .before .before .before .before .before .put-nodes .kept .0 ∙ c .before .before .before .before .before .before .before .before .before .before .before .put-marks .kept .1 .1 .1 .1 .1 .0 ∙ c .before .before .before .before .before .before .before .before .before .before .before .before .before .before .before .put-rings .kept .1 .1 .1 .0 ∙ c .before .before .before .before .before .before .before .before .before .before .before .before .before .before .before .before .before .before .before .put-weld .kept .1 .1 .1 .0
 
 returns : tie.Need-returns
 returns c =

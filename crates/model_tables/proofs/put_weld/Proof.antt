@@ -7,8 +7,8 @@ use Rattle.model_tables.proofs.Reading.{copied}
 use Rattle.model_tables.proofs.put_weld.Statement.{statement}
 use Rattle.model_tables.proofs.put_weld.Tie as tie
 
-weld-all-requires : tie.Need-weld-all-requires
-weld-all-requires c κs = search needs
+weld-named-requires : tie.Need-weld-named-requires
+weld-named-requires c κs = search needs
 
 add-copy-front : tie.Need-add-copy-front
 add-copy-front c = search needs
@@ -21,11 +21,11 @@ same-length c = search needs
 
 returns : tie.Need-returns
 returns c =
-    let s = c .before .before .before .before .before .before .before .before .before .before in
-    let w = c .before .before .before .before .before .before .weld-all in
+    let s = c .before .before .before .before .before .before .before .before .before .before .before in
+    let w = c .before .before .before .before .before .before .weld-named in
     let n = s .args .n in
-    copied _ _ (n + n) n (omega (arith, w .kept .1 .1 .0, s .pre .1)) (c .before .before .copy-front .ensures) ∙ w .ensures .0
+    copied _ _ (n + n) n (omega (arith, w .kept .1 .1 .1 .0, s .pre .1)) (c .before .before .copy-front .ensures) ∙ w .ensures .0
 
 pub put-weld-spec : {M : Type 1} → statement M
 put-weld-spec =
-    tie.close (tie.spec weld-all-requires add-copy-front copy-front-requires same-length returns)
+    tie.close (tie.spec weld-named-requires add-copy-front copy-front-requires same-length returns)

@@ -10,7 +10,8 @@ use lib.Seq.{sets}
 use Rattle.laws.specs.Merging.{AllBelow}
 use Rattle.pair_sort.specs.Pairs.{flat}
 use Rattle.laws.proofs.Stores.{sets-self}
-use Rattle.repeats.specs.Marks.{nodesIn, hits, mark, weldIn, marksIn, placeOf}
+use Rattle.mesh.specs.Rings.{nodesIn}
+use Rattle.repeats.specs.Marks.{hits, mark, weldIn, marksIn, placeOf}
 use Rattle.repeats.proofs.Rounds.{nodes-skip, nodes-next, weld-read, weld-inside, number-inside, hit-short, turn-count, turn-length, turn-front, turn-stored}
 use Rattle.repeats.proofs.find_pairs.Statement.{statement}
 use Rattle.repeats.proofs.find_pairs.Tie as tie

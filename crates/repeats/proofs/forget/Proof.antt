@@ -8,7 +8,8 @@ use lib.ListN.{length, getD, take, drop, length-set, drop-of-length-le}
 use lib.Seq.{sets, take-set-le}
 use Rattle.laws.proofs.Stores.{sets-self}
 use Rattle.laws.specs.Merging.{AllBelow}
-use Rattle.repeats.specs.Marks.{nodesIn, mark, weldIn, marksIn}
+use Rattle.mesh.specs.Rings.{nodesIn}
+use Rattle.repeats.specs.Marks.{mark, weldIn, marksIn}
 use Rattle.repeats.proofs.Rounds.{nodes-skip, nodes-next, weld-read, weld-inside, number-inside, turn-mark}
 use Rattle.repeats.proofs.forget.Statement.{statement}
 use Rattle.repeats.proofs.forget.Tie as tie

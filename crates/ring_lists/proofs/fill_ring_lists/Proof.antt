@@ -11,9 +11,9 @@ use borrow.Author.Tests.{ltb-false}
 use Rattle.laws.specs.Limits.{cellLimit, wordLimit}
 use Rattle.mesh.specs.Acceptance.{workNeeded}
 use Rattle.ring_lists.specs.Filling.{rawRings}
-use Rattle.ring_lists.proofs.Answers.{row-model, row-work, row-raw, row-welded, row-none, refused-so, filled-so, words-are, work-is}
-use Rattle.ring_lists.proofs.Lists.{few-nodes}
-use Rattle.mesh.proofs.Accepted.{shaped}
+use Rattle.ring_lists.proofs.Answers.{row-model, row-work, row-raw, row-welded, row-none, refused-so, filled-so, words-are}
+use Rattle.mesh.proofs.CellWords.{few-nodes}
+use Rattle.mesh.proofs.Accepted.{work-is}
 use Rattle.mesh.proofs.Accepts.{accepts}
 use Rattle.mesh.specs.Model.{modelOf}
 use lib.ListN.{length}
@@ -42,7 +42,7 @@ work-needed-requires c κs =
     let t = c .before .before .accept in
     let ok = sym (t .ensures .refusal) ∙ c .if1 .left in
     let k = accepts m ok in
-    (t .ensures .small, t .ensures .few, omega (arith, ltb-false cellLimit (length (a .kinds .now)) (k .cells)), omega (arith, few-nodes m ok), omega (arith, ltb-false wordLimit (length (a .words .now)) (k .words)))
+    (t .ensures .small, t .ensures .few, omega (arith, ltb-false cellLimit (length (a .kinds .now)) (k .cells)), omega (arith, few-nodes m k), omega (arith, ltb-false wordLimit (length (a .words .now)) (k .words)))
 
 returns-2 : tie.Need-returns-2
 returns-2 c =

@@ -4,13 +4,15 @@ use Rattle.ring_lists.proofs.store.Statement.{statement}
 use Rattle.ring_lists.proofs.store.Tie as tie
 use Rattle.ring_lists.proofs.store.Reads as reads
 use Rattle.ring_lists.proofs.store.Lts as lts
-use Rattle.ring_lists.proofs.put_through.Reads as put-through-reads
-use Rattle.ring_lists.proofs.weld_all.Reads as weld-all-reads
+use Rattle.welding.proofs.put_welded.Reads as put-welded-reads
+use Rattle.welding.proofs.weld_named.Reads as weld-named-reads
 use Rattle.rings.proofs.put_cells.Reads as put-cells-reads
 use Rattle.snap.proofs.clear.Reads as clear-reads
-use Rattle.ring_lists.proofs.Storing.{cleared}
-use Rattle.ring_lists.proofs.Lists.{raw-total, cells-well, raw-below, few-nodes, work-room, front, raw-stored, welded-stored}
+use Rattle.laws.proofs.Stores.{cleared}
+use Rattle.ring_lists.proofs.Lists.{raw-total, cells-well, raw-below, front, raw-stored, welded-stored}
+use Rattle.mesh.proofs.Accepted.{work-room}
 use Rattle.mesh.proofs.Accepts.{accepts}
+use Rattle.mesh.proofs.CellWords.{words-low, few-nodes}
 use Rattle.mesh.specs.Model.{modelOf}
 use Rattle.geometry.specs.Coordinates.{nodeCount}
 use lib.ListN.{length}
@@ -32,22 +34,23 @@ put-cells-requires c κs =
     let k = accepts m ok in
     (k .paired, k .ends, cells-well m ok, omega (arith, raw-total m ok, s .pre .3))
 
-weld-all-requires : tie.Need-weld-all-requires
-weld-all-requires c κs =
+weld-named-requires : tie.Need-weld-named-requires
+weld-named-requires c κs =
     let s = c .before .before .before .before .before .before .before .before .before .before .before .before in
     let a = s .args in
     let m = modelOf (a .coords .now) (a .kinds .now) (a .ends .now) (a .words .now) (a .tol) (a .checks .0) 0 in
     let ok = s .pre .0 in
-    (refl, omega (arith, work-room m ok, s .pre .1, s .pre .2), omega (arith, few-nodes m ok), accepts m ok .places)
+    let k = accepts m ok in
+    (refl, omega (arith, work-room m, s .pre .1, s .pre .2), omega (arith, few-nodes m k), k .places, words-low m k)
 
-sub-put-through : tie.Need-sub-put-through
-sub-put-through c = search needs
+sub-put-welded : tie.Need-sub-put-welded
+sub-put-welded c = search needs
 
-part-put-through-start : tie.Need-part-put-through-start
-part-put-through-start c = search needs
+part-put-welded-start : tie.Need-part-put-welded-start
+part-put-welded-start c = search needs
 
-part-put-through-end : tie.Need-part-put-through-end
-part-put-through-end c =
+part-put-welded-end : tie.Need-part-put-welded-end
+part-put-welded-end c =
     let s = c .before .before .before .before .before .before .before .before .before .before .before .before .before .before .before .before in
     let a = s .args in
     let m = modelOf (a .coords .now) (a .kinds .now) (a .ends .now) (a .words .now) (a .tol) (a .checks .0) 0 in
@@ -55,19 +58,19 @@ part-put-through-end c =
     let p = c .before .before .before .before .before .before .before .put-cells in
     omega (arith, p .ensures .0, raw-total m ok, s .pre .3, p .kept .1 .1 .1 .0)
 
-add-put-through : tie.Need-add-put-through
-add-put-through c = search needs
+add-put-welded : tie.Need-add-put-welded
+add-put-welded c = search needs
 
-put-through-requires : tie.Need-put-through-requires
-put-through-requires c κs =
+put-welded-requires : tie.Need-put-welded-requires
+put-welded-requires c κs =
     let s = c .before .before .before .before .before .before .before .before .before .before .before .before .before .before .before .before .before .before .before in
     let a = s .args in
     let m = modelOf (a .coords .now) (a .kinds .now) (a .ends .now) (a .words .now) (a .tol) (a .checks .0) 0 in
     let ok = s .pre .0 in
     let p = c .before .before .before .before .before .before .before .before .before .before .put-cells in
     let f = front m ok (a .raw .now) _ (s .pre .3) (p .ensures .1) _ (p .ensures .0) in
-    let w = c .before .before .before .before .before .before .weld-all .kept .1 .1 .0 in
-    (omega (arith, ap length f, s .pre .4), subst (AllBelow (nodeCount (a .coords .now))) (sym f) (raw-below m ok), omega (arith, w, work-room m ok, s .pre .1, s .pre .2))
+    let w = c .before .before .before .before .before .before .weld-named .kept .1 .1 .1 .0 in
+    (omega (arith, ap length f, s .pre .4), subst (AllBelow (nodeCount (a .coords .now))) (sym f) (raw-below m ok), omega (arith, w, work-room m, s .pre .1, s .pre .2))
 
 clear-requires : tie.Need-clear-requires
 clear-requires c κs =
@@ -75,7 +78,7 @@ clear-requires c κs =
     let a = s .args in
     let m = modelOf (a .coords .now) (a .kinds .now) (a .ends .now) (a .words .now) (a .tol) (a .checks .0) 0 in
     let ok = s .pre .0 in
-    omega (arith, c .before .before .before .before .before .before .before .before .before .before .weld-all .kept .1 .1 .0, s .pre .2)
+    omega (arith, c .before .before .before .before .before .before .before .before .before .before .weld-named .kept .1 .1 .1 .0, s .pre .2)
 
 same-length : tie.Need-same-length
 same-length c = search needs
@@ -93,13 +96,13 @@ returns c =
     let m = modelOf (a .coords .now) (a .kinds .now) (a .ends .now) (a .words .now) (a .tol) (a .checks .0) 0 in
     let ok = s .pre .0 in
     let p = c .before .before .before .before .before .before .before .before .before .before .before .before .before .before .before .before .before .put-cells in
-    let q = c .before .before .before .before .before .before .before .before .before .before .before .before .before .weld-all in
+    let q = c .before .before .before .before .before .before .before .before .before .before .before .before .before .weld-named in
     let f = front m ok (a .raw .now) _ (s .pre .3) (p .ensures .1) _ (p .ensures .0) in
-    let w = q .kept .1 .1 .0 in
+    let w = q .kept .1 .1 .1 .0 in
     record {
       rawIs = raw-stored m ok (a .raw .now) _ (s .pre .3) (p .ensures .1);
-      weldedIs = welded-stored m ok (a .welded .now) _ _ _ (q .ensures .0) (omega (arith, w, work-room m ok, s .pre .1, s .pre .2)) f (c .before .before .before .before .before .before .put-through .ensures);
-      workIs = c .before .before .clear .ensures ∙ cleared (a .work .now) _ (nodeCount (a .coords .now) + nodeCount (a .coords .now) + nodeCount (a .coords .now)) (a .need) (q .ensures .1 .1) (omega (arith, work-room m ok, s .pre .1)) (s .pre .2) w ∙ ap (λ (k : ℕ). sets (a .work .now) 0 (replicate k 0)) (s .pre .1);
+      weldedIs = welded-stored m ok (a .welded .now) _ _ _ (q .ensures .0) f (c .before .before .before .before .before .before .put-welded .ensures);
+      workIs = c .before .before .clear .ensures ∙ cleared (a .work .now) _ (nodeCount (a .coords .now) + nodeCount (a .coords .now) + nodeCount (a .coords .now)) (a .need) (q .ensures .1 .1) (omega (arith, work-room m, s .pre .1)) (s .pre .2) w ∙ ap (λ (k : ℕ). sets (a .work .now) 0 (replicate k 0)) (s .pre .1);
     }
 
 pub store-spec : {M : Type 1} → statement M
@@ -107,12 +110,12 @@ store-spec =
     tie.close
     (tie.spec
     put-cells-requires
-    weld-all-requires
-    sub-put-through
-    part-put-through-start
-    part-put-through-end
-    add-put-through
-    put-through-requires
+    weld-named-requires
+    sub-put-welded
+    part-put-welded-start
+    part-put-welded-end
+    add-put-welded
+    put-welded-requires
     clear-requires
     same-length
     same-length-2
