@@ -1,12 +1,12 @@
 -- The members of a list of numbers: of a sorted list, of one with each number once, and below a bound.
-use Prim.Native.Nat.{ℕ, _+_, _≤_, _<_}
-use mathlib.Core.Path.{_≡_, refl, sym, ap, _∙_, subst}
+use Prim.Native.Nat.{ℕ, _+_, _<_}
+use mathlib.Core.Path.{_≡_, refl, sym, ap, _∙_}
 use mathlib.Core.Logic.{_⊎_, inl, inr, ⊎-elim}
-use mathlib.Core.Bool.{Bool, true, false, _&&_, _||_, and-true, false≢true}
+use mathlib.Core.Bool.{Bool, true, false, _&&_, _||_, false≢true}
 use mathlib.Core.List.{List, [], _∷_}
 use native.Mathlib.Omega.{arith}
 use borrow.Author.Tests.{eqb-true, le-leb, lt-ltb}
-use lib.Dec.{leb, ltb, eqb}
+use lib.Dec.{leb, eqb}
 use Rattle.laws.specs.Lists.{keep, insert, sort, distinct, elem, upFrom}
 use Rattle.laws.specs.Merging.{AllBelow}
 use Rattle.laws.proofs.Tests.{tested, both-ways, or-cases, or-swap, and-parts}

@@ -12,7 +12,7 @@ use Rattle.laws.specs.Limits.{cellLimit, wordLimit, flagLimit}
 use Rattle.laws.specs.Refusals.{refusal}
 use Rattle.laws.proofs.Tests.{or-none, and-parts}
 use Rattle.laws.proofs.ListLaws.{any-append}
-use Rattle.laws.proofs.Tables.{reason, Numbered, numbered-append, clear-append, clear-refusal, refusal-clear, refusal-end}
+use Rattle.laws.proofs.Tables.{reason, Numbered, numbered-append, clear-refusal, refusal-clear, refusal-end}
 use Rattle.geometry.specs.Coordinates.{nodeCount, countOff, toleranceOff, coordinatesOff}
 use Rattle.mesh.specs.Model.{Model, Raw, PHED, ascending, cellsOf}
 use Rattle.mesh.specs.Acceptance.{endsOff, shapeOff, kindOff, countWrong, nodeOff, cellTable, cellsTable, meshTable, modelTable, modelRefusal}

@@ -1,6 +1,6 @@
 // A recorded area test: the number of nodes and the length of the list in four bytes each, the tolerance, three coordinates a node, the
 // list in four bytes each, document 01's answer as our number, and whether the Rust says that the nodes span an area.
-ghost use Prim.Native.Nat.{_+_, _*_, _^_, _≤_, _<_};
+ghost use Prim.Native.Nat.{_+_, _*_, _≤_, _<_};
 ghost use lib.ListN.{length};
 use area::Area;
 use area::AreaAnswer;

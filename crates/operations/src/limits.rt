@@ -53,11 +53,7 @@ fn words_of(s: &[u8], from: usize, to: usize) -> [u32; 65]
 {
     let mut words = [0u32; 65];
     let n = least((to - from) / 4, 65);
-    let mut i = 0;
-    while i < n {
-        words[i] = floats::le_four(s, from + 4 * i) as u32;
-        i += 1;
-    }
+    test_support::read_words(s, from, &mut words, n);
     words
 }
 

@@ -6,9 +6,9 @@ use mathlib.Core.Bool.{Bool, true, false, _||_, false≢true}
 use mathlib.Core.List.{List, [], _∷_, _++_}
 use native.Mathlib.Omega.{arith}
 use borrow.Author.Tests.{leb-true, ltb-true}
-use lib.Dec.{leb, ltb, eqb}
+use lib.Dec.{leb, ltb}
 use lib.ListN.{length}
-use Rattle.laws.specs.Lists.{onlyIf, keep, upFrom, elem, sort, add}
+use Rattle.laws.specs.Lists.{onlyIf, keep, upFrom, elem, add}
 use Rattle.laws.proofs.Tests.{tested, clash, and-parts, eqb-self}
 use Rattle.laws.proofs.ListLaws.{eql-true}
 use Rattle.laws.proofs.Ascending.{asc-ext, elem-add, elem-upFrom, head-in, later-in}

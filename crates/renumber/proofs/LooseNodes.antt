@@ -28,7 +28,7 @@ use Rattle.findings.specs.Rules.{rulesOf, fullOf}
 use Rattle.findings.specs.Records.{fieldsOf, centreIn, recordBytes, recordOf, keptBytes}
 use Rattle.findings.specs.Check.{totalsOf, Checking}
 use Rattle.findings.specs.declared.CheckAnswer.{CheckAnswer}
-use Rattle.renumber.specs.Renumbering.{Used, wordBy, Renumbering, renamed, recordBy}
+use Rattle.renumber.specs.Renumbering.{Used, wordBy, renamed, recordBy}
 use Rattle.renumber.specs.Loose.{LooseApart, withBehind}
 use Rattle.renumber.proofs.Models.{used-low, welds-go}
 use Rattle.renumber.proofs.Renumbered.{fields-renamed, accepted-renumbered, welds-renumbered, full-renumbered, kept-renumbered, report-renumbered}
@@ -63,53 +63,36 @@ records-own R l = each-ext (λ x. ap (λ r. recordBytes r (centreIn R x)) (sym (
 
 -- ---- loose nodes changed
 
--- a model but for its loose nodes is the model, each node under its own number
-pub loose-renumbers : (m n : Model) → LooseApart m n → Renumbering (λ a. a) m n
-loose-renumbers m n h =
-    record {
-      kinds = h .kinds;
-      ends = h .ends;
-      words = h .words ∙ sym (words-own (m .words));
-      tolerance = h .tolerance;
-      flags = h .flags;
-      cap = h .cap;
-      count = h .count;
-      places = h .places;
-      within = h .within;
-      rises = λ a b u v r. r;
-      points = h .points;
-    }
-
 module _ (m n : Model) (h : LooseApart m n) (e : modelRefusal m ≡ 0) where
   -- it is accepted too
   pub loose-accepted : modelRefusal n ≡ 0
-  loose-accepted = accepted-renumbered own m n (loose-renumbers m n h) e
+  loose-accepted = accepted-renumbered own m n h e
 
   -- every node keeps its welded number
   pub loose-welds : (a : ℕ) → weldedBy (weldsOf n) a ≡ weldedBy (weldsOf m) a
   loose-welds a = go (tested (elem a (usedNodes (cellsOf m))))
     where
       same : cellsOf n ≡ cellsOf m
-      same = unfold cellsOf in λ i. cellsFrom 0 (h .kinds i) (h .ends i) (h .words i)
+      same = unfold cellsOf in λ i. cellsFrom 0 (h .kinds i) (h .ends i) ((h .words ∙ words-own (m .words)) i)
 
       go : (elem a (usedNodes (cellsOf m)) ≡ true) ⊎ (elem a (usedNodes (cellsOf m)) ≡ false) → weldedBy (weldsOf n) a ≡ weldedBy (weldsOf m) a
-      go (inl u) = welds-renumbered own m n (loose-renumbers m n h) e a u
+      go (inl u) = welds-renumbered own m n h e a u
       go (inr u) = loose-stays n a (ap (λ cs. elem a (usedNodes cs)) same ∙ u) ∙ sym (loose-stays m a u)
 
   -- the full list is the same,
   pub loose-free : fullOf n ≡ fullOf m
-  loose-free = full-renumbered own m n (loose-renumbers m n h) e ∙ all-own (fullOf m)
+  loose-free = full-renumbered own m n h e ∙ all-own (fullOf m)
 
   -- and so are the bytes kept of it
   pub loose-kept : (k : ℕ) → keptBytes (rulesOf n) k (fullOf n) ≡ keptBytes (rulesOf m) k (fullOf m)
   unfolding keptBytes
-  loose-kept k = kept-renumbered own m n (loose-renumbers m n h) e k ∙ records-own (rulesOf m) (take k (fullOf m))
+  loose-kept k = kept-renumbered own m n h e k ∙ records-own (rulesOf m) (take k (fullOf m))
 
 -- so is the report: lent the same memory for findings, and work that is long enough for both, the check answers the same and leaves the same bytes
 pub loose-report : (m n : Model) (f f' w w' g' v v' : List ℕ) (r s : CheckAnswer) → LooseApart m n → modelRefusal m ≡ 0
     → workNeeded m ≤ length w → workNeeded n ≤ length v → Checking m f f' w w' r → Checking n f g' v v' s → (s ≡ r) × (g' ≡ f')
 loose-report m n f f' w w' g' v v' r s h e lw lv c d =
-    let p = report-renumbered own m n f f' w w' f g' v v' r s (loose-renumbers m n h) e refl lw lv c d in
+    let p = report-renumbered own m n f f' w w' f g' v v' r s h e refl lw lv c d in
     let l = take (totalsOf m (length f) .kept) (fullOf m) in
     (p .0, p .2 ∙ ap (λ (b : List ℕ). b ++ drop (length b) f) (records-own (rulesOf m) l) ∙ sym (p .1))
 
@@ -124,13 +107,14 @@ module _ (m : Model) (extra : List Float) (e : modelRefusal m ≡ 0) (count : co
       record {
         kinds = refl;
         ends = refl;
-        words = refl;
+        words = sym (words-own (m .words));
         tolerance = refl;
         flags = refl;
         cap = refl;
         count = count;
         places = any-append coordinateOff (m .coords) extra ∙ rw (accepts m e .places, places);
         within = λ a u. omega (arith, used-low m (accepts m e) a u, length-append (m .coords) extra);
+        rises = λ a b u v r. r;
         points = λ a u. point a (used-low m (accepts m e) a u);
       }
     where
@@ -150,7 +134,7 @@ module _ (m : Model) (extra : List Float) (e : modelRefusal m ≡ 0) (count : co
 
 -- the welded number of a node used is that of a node used
 pub welded-used : (m : Model) → modelRefusal m ≡ 0 → (a : ℕ) → Used m a → Used m (weldedBy (weldsOf m) a)
-welded-used m e a u = welds-go own m m (loose-renumbers m m itself) (accepts m e) a a (record { used = u; is = refl }) .used
+welded-used m e a u = welds-go own m m itself (accepts m e) a a (record { used = u; is = refl }) .used
   where
     itself : LooseApart m m
     itself =
@@ -158,12 +142,13 @@ welded-used m e a u = welds-go own m m (loose-renumbers m m itself) (accepts m e
         record {
           kinds = refl;
           ends = refl;
-          words = refl;
+          words = sym (words-own (m .words));
           tolerance = refl;
           flags = refl;
           cap = refl;
           count = ok .coordinates;
           places = ok .places;
           within = used-low m ok;
+          rises = λ a b u v r. r;
           points = λ b v. refl;
         }

@@ -1,8 +1,8 @@
 -- The table of filling ring lists, row by row, and its promise.
-use Prim.Native.Nat.{ℕ, _+_, _*_, _≤_, _<_}
-use mathlib.Core.Path.{_≡_, refl, ap, _∙_}
+use Prim.Native.Nat.{ℕ, _+_, _≤_, _<_}
+use mathlib.Core.Path.{_≡_, ap, _∙_}
 use mathlib.Core.Logic.{_≢_}
-use mathlib.Core.Bool.{Bool, true, false, _||_}
+use mathlib.Core.Bool.{Bool, _||_}
 use mathlib.Core.List.{List, [], _∷_, _++_, append-assoc}
 use native.Mathlib.Omega.{arith}
 use borrow.Author.Tests.{lt-ltb, le-ltb, ne-eqb}
@@ -11,10 +11,8 @@ use lib.ListN.{length, replicate, length-replicate, length-map}
 use Rattle.laws.specs.Refusals.{refusal}
 use Rattle.laws.proofs.Stores.{sets-front}
 use Rattle.laws.proofs.Tables.{clear-append, refusal-first}
-use Rattle.geometry.specs.Coordinates.{nodeCount}
 use Rattle.mesh.specs.Model.{Model}
-use Rattle.mesh.specs.Rings.{ringWords}
-use Rattle.mesh.specs.Acceptance.{modelTable, modelRefusal, facesIn, workNeeded}
+use Rattle.mesh.specs.Acceptance.{modelTable, modelRefusal, workNeeded}
 use Rattle.mesh.specs.Steps.{ModelCounted}
 use Rattle.mesh.specs.declared.CellTally.{CellTally}
 use Rattle.mesh.proofs.Accepts.{accepted-clear}
@@ -22,7 +20,6 @@ use Rattle.snap.specs.Weld.{weldedBy}
 use Rattle.welding.specs.Used.{weldsOf}
 use Rattle.ring_lists.specs.Filling.{rawRings, weldedRings, fillRefusal, Filling}
 use Rattle.ring_lists.specs.Steps.{Stored}
-use Rattle.ring_lists.specs.declared.RingsAnswer.{RingsAnswer}
 use Rattle.ring_lists.specs.declared.RingsAnswer.the-variants.{Refused, Words}
 
 -- ---- the rows

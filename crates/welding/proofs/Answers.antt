@@ -1,13 +1,13 @@
 -- Welding's table, row by row, and its promise.
-use Prim.Native.Nat.{ℕ, _+_, _*_, _≤_, _<_}
+use Prim.Native.Nat.{ℕ, _+_, _≤_, _<_}
 use mathlib.Core.Path.{_≡_, sym, ap, _∙_}
 use mathlib.Core.Logic.{_≢_}
 use mathlib.Core.Bool.{Bool, false, _||_}
-use mathlib.Core.List.{List, [], _∷_, _++_}
+use mathlib.Core.List.{List, [], _∷_}
 use native.Mathlib.Omega.{arith}
 use borrow.Author.Tests.{ltb-false, lt-ltb, le-ltb, ne-eqb}
-use lib.Dec.{ltb, eqb}
-use lib.ListN.{length, drop, replicate, length-replicate}
+use lib.Dec.{ltb}
+use lib.ListN.{length, replicate, length-replicate}
 use lib.Seq.{sets}
 use Rattle.laws.specs.Limits.{flagLimit}
 use Rattle.laws.specs.Lists.{any}

@@ -18,7 +18,7 @@ use Rattle.mesh.proofs.CellWords.{cells-words}
 use Rattle.snap.specs.Weld.{welded}
 use Rattle.snap.proofs.Whole.{length-welded}
 use Rattle.welding.specs.Used.{usedNodes, weldedUsed, weldsOf}
-use Rattle.welding.specs.Steps.{nodesOf, weldedOver}
+use Rattle.welding.specs.Steps.{namedNodes, weldedOver}
 
 -- a node is used where a word of some cell names it
 pub used-is : (a : ℕ) (cs : List Raw) → elem a (usedNodes cs) ≡ (not (eqb a separator) && elem a (each (λ c. c .words) cs))
@@ -38,9 +38,9 @@ used-same cs ds e =
     (λ a. used-is a cs ∙ ap (λ (b : Bool). not (eqb a separator) && b) (e a) ∙ sym (used-is a ds))
 
 -- those of an accepted model are the nodes that its words name,
-pub used-words : (m : Model) → Accepts m → usedNodes (cellsOf m) ≡ nodesOf (m .words)
+pub used-words : (m : Model) → Accepts m → usedNodes (cellsOf m) ≡ namedNodes (m .words)
 unfolding usedNodes
-used-words m h = ap nodesOf (cells-words m h)
+used-words m h = ap namedNodes (cells-words m h)
 
 -- and its map is that over them
 pub welds-words : (m : Model) → Accepts m → weldedOver (m .coords) (m .tolerance) (m .words) ≡ weldsOf m

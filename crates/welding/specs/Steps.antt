@@ -9,9 +9,9 @@ use Rattle.mesh.specs.Rings.{nodesIn}
 use Rattle.snap.specs.Weld.{welded}
 
 -- the nodes that words name, each once, ascending
-abbrev pub nodesOf : List ℕ → List ℕ
-nodesOf ws = distinct leb (nodesIn ws)
+abbrev pub namedNodes : List ℕ → List ℕ
+namedNodes ws = distinct leb (nodesIn ws)
 
 -- the welded numbers of all nodes, where those are welded
 abbrev pub weldedOver : List Float → Float → List ℕ → List ℕ
-weldedOver c t ws = welded c t (nodeCount c) (nodesOf ws)
+weldedOver c t ws = welded c t (nodeCount c) (namedNodes ws)

@@ -15,7 +15,7 @@ ghost use Rattle.snap.specs.Weld.{weldedBy};
 ghost use Rattle.snap.specs.Steps.{But, marked, putAll};
 ghost use Rattle.laws.specs.Refusals.{refusal};
 ghost use Rattle.welding.specs.Welding.{weldTable, Welding};
-ghost use Rattle.welding.specs.Steps.{nodesOf, weldedOver};
+ghost use Rattle.welding.specs.Steps.{namedNodes, weldedOver};
 
 // What welding answers: a refusal's number, or that the map is filled.
 pub enum WeldAnswer {
@@ -63,7 +63,7 @@ fn list_marked(work: &mut [u32], k: usize, n: usize) -> usize
 // The nodes that the words name, each once, go to the front, ascending; answers how many. The n words from 2n on are room for marks.
 fn list_named(words: &[u32], work: &mut [u32], n: usize) -> usize
     requires { ⌜ (3 * n ≤ length (now work)) × (n < 2 ^ 32) × AllBelow n (nodesIn (now words)) ⌝ }
-    ensures { λ r. ⌜ (r ≤ n) × (region 0 r (now (work .exit)) ≡ nodesOf (now (words .entry))) × But 0 (n + n + n) (now (work .entry)) (now (work .exit)) ⌝ }
+    ensures { λ r. ⌜ (r ≤ n) × (region 0 r (now (work .exit)) ≡ namedNodes (now (words .entry))) × But 0 (n + n + n) (now (work .entry)) (now (work .exit)) ⌝ }
 {
     snap::clear(work, n + n, n);
     mark_named(words, work, n + n, n);

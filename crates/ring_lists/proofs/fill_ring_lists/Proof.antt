@@ -17,9 +17,8 @@ use Rattle.mesh.proofs.Accepted.{work-is}
 use Rattle.mesh.proofs.Accepts.{accepts}
 use Rattle.mesh.specs.Model.{modelOf}
 use lib.ListN.{length}
-use mathlib.Core.Logic.{_≢_}
-use mathlib.Core.Path.{_≡_, refl, sym, ap, _∙_}
-use Prim.Native.Nat.{_+_, _≤_, _<_}
+use mathlib.Core.Path.{sym, _∙_}
+use Prim.Native.Nat.{_≤_}
 
 accept-requires : tie.Need-accept-requires
 accept-requires c κs = search needs

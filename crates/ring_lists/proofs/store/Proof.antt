@@ -16,12 +16,11 @@ use Rattle.mesh.proofs.CellWords.{words-low, few-nodes}
 use Rattle.mesh.specs.Model.{modelOf}
 use Rattle.geometry.specs.Coordinates.{nodeCount}
 use lib.ListN.{length}
-use mathlib.Core.Path.{_≡_, refl, sym, ap, _∙_}
-use Prim.Native.Nat.{_+_, _*_, _≤_}
+use mathlib.Core.Path.{refl, sym, ap, _∙_}
+use Prim.Native.Nat.{_+_}
 use lib.ListN.{replicate}
 use lib.Seq.{sets}
 use Rattle.laws.specs.Merging.{AllBelow}
-use mathlib.Core.List.{List}
 use Prim.Native.Nat.{ℕ}
 use mathlib.Core.Path.{subst}
 

@@ -1,8 +1,7 @@
 -- As many of the marked nodes are listed as turns were taken; the marks lie behind the list.
-use Prim.Native.Nat.{ℕ, _+_, _-_, _≤_, _<_}
-use mathlib.Core.Path.{_≡_, refl, sym, ap, ap₂, _∙_}
-use mathlib.Core.Bool.{Bool, true, false, not}
-use mathlib.Core.List.{List}
+use Prim.Native.Nat.{ℕ, _+_, _-_, _≤_}
+use mathlib.Core.Path.{_≡_, refl, sym, ap, _∙_}
+use mathlib.Core.Bool.{true, false, not}
 use native.Mathlib.Omega.{arith}
 use borrow.Author.Needs.{needs}
 use borrow.Author.Tests.{eq-eqb, ne-eqb}
@@ -11,7 +10,7 @@ use lib.ListN.{length, getD, set, length-set}
 use lib.Seq.{sets}
 use Rattle.laws.specs.Lists.{keep, upFrom}
 use Rattle.snap.specs.Steps.{marked}
-use Rattle.welding.proofs.Naming.{list-more, list-less, list-most, mark-read}
+use Rattle.welding.proofs.Naming.{list-more, list-less, mark-read}
 use Rattle.welding.proofs.list_marked.Statement.{statement}
 use Rattle.welding.proofs.list_marked.Tie as tie
 

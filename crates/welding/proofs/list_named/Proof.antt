@@ -1,10 +1,10 @@
 -- Cleared, marked and listed, on lists: Naming.
-use mathlib.Core.Path.{_≡_, ap, _∙_}
+use mathlib.Core.Path.{ap, _∙_}
 use mathlib.Core.List.{List}
 use Prim.Native.Nat.{ℕ, _+_}
 use native.Mathlib.Omega.{arith}
 use borrow.Author.Needs.{needs}
-use lib.ListN.{length, replicate}
+use lib.ListN.{length}
 use lib.Seq.{sets}
 use Rattle.laws.specs.Lists.{keep, upFrom}
 use Rattle.mesh.specs.Rings.{nodesIn}

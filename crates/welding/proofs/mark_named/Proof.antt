@@ -4,7 +4,7 @@ use mathlib.Core.Path.{_≡_, refl, sym, ap, _∙_}
 use mathlib.Core.List.{List}
 use native.Mathlib.Omega.{arith}
 use borrow.Author.Needs.{needs}
-use lib.ListN.{length, getD, set, drop, length-set, drop-of-length-le}
+use lib.ListN.{length, set, drop, length-set, drop-of-length-le}
 use Rattle.mesh.specs.Rings.{nodesIn}
 use Rattle.snap.specs.Steps.{putAll}
 use Rattle.welding.proofs.Naming.{named-at, nodes-skip, nodes-next}

@@ -1,8 +1,6 @@
 -- Each return has the tests that led there.
 use mathlib.Core.Path.{_≡_, refl, sym, _∙_}
-use native.Mathlib.Omega.{arith}
 use borrow.Author.Needs.{needs}
-use lib.ListN.{length}
 use Rattle.mesh.specs.Model.{Model, modelOf}
 use Rattle.mesh.specs.Acceptance.{modelRefusal}
 use Rattle.welding.proofs.Answers.{row-model, row-map, row-scratch, row-none}

@@ -1,5 +1,4 @@
 -- An answer of 0 gives what weld_named requires (accepted); the rest is said on lists, in Answers.
-use Prim.Native.Nat.{_+_, _*_}
 use mathlib.Core.Path.{_≡_, refl, sym, _∙_}
 use native.Mathlib.Omega.{arith}
 use borrow.Author.Needs.{needs}

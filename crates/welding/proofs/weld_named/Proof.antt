@@ -1,20 +1,18 @@
 -- With tolerance 0 each node's own number; else the named nodes, listed and welded.
-use mathlib.Core.Path.{_≡_, refl, sym, ap, _∙_, subst}
+use mathlib.Core.Path.{_≡_, sym, ap, _∙_, subst}
 use mathlib.Core.Bool.{true, false}
-use mathlib.Core.List.{List}
-use Prim.Native.Nat.{ℕ, _+_, _<_}
+use Prim.Native.Nat.{ℕ, _+_}
 use native.Mathlib.Omega.{arith}
 use borrow.Author.Needs.{needs}
 use lib.Ieee.{eq}
-use lib.ListN.{length}
-use Rattle.laws.specs.Merging.{region, AllBelow}
+use Rattle.laws.specs.Merging.{AllBelow}
 use Rattle.laws.proofs.Members.{below-distinct}
 use Rattle.floats.specs.Floats.{zero64}
 use Rattle.floats.proofs.Constants.{zero-bits}
 use Rattle.mesh.specs.Rings.{nodesIn}
 use Rattle.snap.specs.Weld.{welded}
 use Rattle.snap.proofs.Whole.{unwelded}
-use Rattle.welding.specs.Steps.{nodesOf}
+use Rattle.welding.specs.Steps.{namedNodes}
 use Rattle.welding.proofs.Naming.{named-welded}
 use Rattle.welding.proofs.weld_named.Statement.{statement}
 use Rattle.welding.proofs.weld_named.Tie as tie
@@ -33,8 +31,8 @@ returns c =
     let s = c .before .before .before .before .before .before .before .before in
     let a = s .args in
     let z : eq (a .tol) zero64 ≡ true = rw (← zero-bits) (c .before .before .before .before .if1 .taken) in
-    let u = unwelded (a .coords .now) (a .tol) (nodesOf (a .words .now)) (a .work .now) _ (a .n + a .n) (a .n) (omega (arith, s .pre .1)) (c .before .before .number .ensures) z in
-    (u .0 ∙ ap (λ (k : ℕ). welded (a .coords .now) (a .tol) k (nodesOf (a .words .now))) (s .pre .0), u .1)
+    let u = unwelded (a .coords .now) (a .tol) (namedNodes (a .words .now)) (a .work .now) _ (a .n + a .n) (a .n) (omega (arith, s .pre .1)) (c .before .before .number .ensures) z in
+    (u .0 ∙ ap (λ (k : ℕ). welded (a .coords .now) (a .tol) k (namedNodes (a .words .now))) (s .pre .0), u .1)
 
 list-named-requires : tie.Need-list-named-requires
 list-named-requires c κs = let s = c .before .before .before .before .before in (s .pre .1, s .pre .2, s .pre .4)
@@ -66,7 +64,7 @@ returns-2 c =
     let s = c .before .before .before .before .before .before .before .before .before .before .before .before in
     let a = s .args in
     let L = c .before .before .before .before .before .before .list-named in
-    named-welded (a .coords .now) (a .tol) (a .n) (L .result) (nodesOf (a .words .now)) (a .work .now) _ _ (s .pre .0) (L .ensures .1) (L .ensures .2) (c .before .before .weld-in .ensures)
+    named-welded (a .coords .now) (a .tol) (a .n) (L .result) (namedNodes (a .words .now)) (a .work .now) _ _ (s .pre .0) (L .ensures .1) (L .ensures .2) (c .before .before .weld-in .ensures)
 
 pub weld-named-spec : {M : Type 1} → statement M
 weld-named-spec =
