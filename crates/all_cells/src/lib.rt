@@ -1,4 +1,6 @@
 // The findings of one kind, cell by cell: each kind in a pass of its own over the cells.
+#![tactic(auto)]
+
 ghost use Rattle.std.specs.Prelude.{◌≡◌, ◌+◌, ◌*◌, ◌^◌, ◌≤◌, ◌<◌, length};
 ghost use Rattle.laws.specs.Lists.{each, up_from};
 ghost use Rattle.geometry.specs.Coordinates.{node_count};

@@ -1,5 +1,7 @@
 // The area test: do nodes span an area? Differences, dots and crosses are the Rust's expressions, in its order. Its roots are found once for
 // the extent, of the largest square, and elsewhere only where squares do not decide; the contracts say that the answer is the same.
+#![tactic(auto)]
+
 ghost use Rattle.std.specs.Prelude.{◌≡◌, ◌<◌, ◌≤◌, length, get_or, drop};
 ghost use Rattle.std.specs.Float.Ieee.{lt};
 ghost use Rattle.floats.specs.Floats.{larger_of};

@@ -1,4 +1,6 @@
 // The meeting of two edges, and the bow-tie test of a ring. Each float expression is that of the Rust, in its order.
+#![tactic(auto)]
+
 ghost use Rattle.std.specs.Prelude.{◌≡◌, ◌<◌, ◌≤◌, length, get_or};
 ghost use Rattle.geometry.specs.Points.{point_at, points_of};
 ghost use Rattle.geometry.specs.Steps.{InNodes};

@@ -1,5 +1,7 @@
 // The candidates of one face of a model, by common nodes or by node triples, as the check seeks them for each face. What is found is the
 // definition's list whichever way is asked for, and the search itself tells which was taken.
+#![tactic(auto)]
+
 ghost use Rattle.std.specs.Prelude.{◌≡◌, ◌^◌, ◌≤◌, ◌<◌, length, take};
 ghost use Rattle.std.proofs.lemmas.List.Edits.{sets};
 ghost use Rattle.mesh.specs.Model.{Model, model_of};

@@ -1,4 +1,6 @@
 // The check of a model: refused with a number, or all findings counted and the first of them kept.
+#![tactic(auto)]
+
 ghost use Rattle.std.specs.Prelude.{◌≡◌};
 ghost use Rattle.mesh.specs.Model.{model_of};
 ghost use Rattle.findings.specs.declared.CheckAnswer.TheVariants.{Refused};

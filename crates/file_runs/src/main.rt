@@ -1,4 +1,6 @@
 // The program's run between a file of data/ and standard output, on inputs at its limits: the file's name, then what the program writes.
+#![tactic(auto)]
+
 use libc::STDOUT_FILENO;
 
 fn run_on(name: &[u8]) {

@@ -1,4 +1,6 @@
 // All findings of an accepted model, in the order of the full list.
+#![tactic(auto)]
+
 ghost use Rattle.std.specs.Prelude.{◌≡◌, ◌*◌, ◌^◌, ◌≤◌, length};
 ghost use Rattle.mesh.specs.Model.{Model, model_of};
 ghost use Rattle.mesh.specs.Acceptance.{model_refusal, faces_in, work_needed};

@@ -1,5 +1,7 @@
 // Geometry: points by value, their centre, the scale of coordinates, and what is refused of them.
 // Each float expression is that of the Rust, in its order.
+#![tactic(auto)]
+
 ghost use Rattle.std.specs.Prelude.{◌≡◌, ◌*◌, ◌+◌, ◌<◌, ◌≤◌, length};
 ghost use Rattle.std.specs.Float.Ieee.{lt};
 ghost use Rattle.geometry.specs.Points.{point_sub, point_add, point_scale, point_dot, point_cross, length_of, midpoint_of, point_at, points_of, share, centre_of};

@@ -1,4 +1,6 @@
 // Both indexes of the faces, built on tables that stand, and which search is less work.
+#![tactic(auto)]
+
 ghost use Rattle.std.specs.Prelude.{◌≡◌};
 ghost use Rattle.index.specs.Faces.{input, base};
 ghost use Rattle.triple_keys.specs.Keys.{Keyed};

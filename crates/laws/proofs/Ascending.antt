@@ -1,6 +1,6 @@
 -- Strictly ascending lists of numbers: such a list is settled by its members.
 use Prim.Native.Nat.{ℕ, zero, suc, ◌+◌, ◌≤◌, ◌<◌}
-use mathlib.Core.Path.{◌≡◌, refl, sym, ap, ap₂, ◌∙◌}
+use mathlib.Core.Path.{◌≡◌, refl, sym, ap, ap₂, ◌∙◌, subst}
 use mathlib.Core.Logic.{◌⊎◌, inl, inr, ⊎_elim, ◌≢◌}
 use mathlib.Core.Bool.{Bool, true, false, ◌&&◌, ◌||◌, or_self_left, and-false, false≢true}
 use mathlib.Core.List.{List, [], ◌∷◌, ◌++◌, append-nil}
@@ -148,7 +148,7 @@ keep_skip p a (suc k) f =
 -- its first number is a member, and the lowest
 pub first_in : (l : List ℕ) (d g : ℕ) → get_or l 0 d ≡ g → d ≢ g → elem g l ≡ true
 first_in [] d g e n = absurd (n e)
-first_in (x ∷ l) d g e n = rw (← e) (head_in x l)
+first_in (x ∷ l) d g e n = subst (λ (k : ℕ). elem k (x ∷ l) ≡ true) e (head_in x l)
 
 pub first_low : (l : List ℕ) (d h : ℕ) → Asc l → elem h l ≡ true → get_or l 0 d ≤ h
 first_low [] d h a e = absurd (false≢true e)

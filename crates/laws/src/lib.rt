@@ -1,1 +1,2 @@
 // Definitions that every crate shares, and their laws.
+#![tactic(auto)]

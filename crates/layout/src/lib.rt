@@ -1,4 +1,6 @@
 // Where the tables of a model's faces, the index and the scratch of the check stand in its one lent work slice.
+#![tactic(auto)]
+
 ghost use Rattle.std.specs.Prelude.{◌≡◌, ◌+◌, ◌≤◌, ◌<◌, get_or, take};
 ghost use Rattle.index.specs.Faces.{input, cell_of};
 ghost use Rattle.layout.specs.Tables.{first_of, Faced, Ringed};

@@ -1,4 +1,6 @@
 // The model: its check flags, and why it is refused; one pass over its cells judges and counts.
+#![tactic(auto)]
+
 ghost use Rattle.std.specs.Prelude.{◌≡◌, ◌||◌, not, cond, true, false, ◌+◌, ◌*◌, ◌≤◌, ◌<◌, leb, ltb, eqb, length, drop};
 ghost use Rattle.laws.specs.Limits.{cell_limit, word_limit, ring_limit};
 ghost use Rattle.laws.specs.Lists.{any};

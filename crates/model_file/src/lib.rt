@@ -1,4 +1,5 @@
 // The model file: 32-byte records, read into lent lists and written from them.
+#![tactic(auto)]
 
 // What a record is, by its first byte.
 #[derive(Drop)]

@@ -1,5 +1,7 @@
 // Published and damaged model files, read, and written back where they are accepted: what came of each.
 // tools/model_files.py gives what must be printed, by a reading of its own.
+#![tactic(auto)]
+
 ghost use Rattle.std.specs.Prelude.{◌<◌};
 
 use model_file::{Found, ReadAnswer, WriteAnswer};

@@ -1,4 +1,6 @@
 // Reading a model file into lent lists.
+#![tactic(auto)]
+
 ghost use Rattle.std.specs.Prelude.{◌≡◌, ◌≤◌, length};
 ghost use Rattle.model_file.specs.Records.{cap_in};
 ghost use Rattle.model_file.specs.File.{length_off};

@@ -1,4 +1,6 @@
 // Recorded numbers, computed again: square roots, welded node sets, area tests. A line for the roots, and one for each set and test.
+#![tactic(auto)]
+
 mod areas;
 mod lists;
 mod roots;

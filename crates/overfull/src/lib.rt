@@ -1,4 +1,6 @@
 // The overfull faces of a cell, read off the tables and the index of the faces by node.
+#![tactic(auto)]
+
 ghost use Rattle.std.specs.Prelude.{◌≡◌, true, ◌+◌, ◌*◌, ◌^◌, ◌≤◌, ◌<◌, length};
 ghost use Rattle.laws.specs.Lists.{keep, elem};
 ghost use Rattle.geometry.specs.Points.{points_of, centre_of};

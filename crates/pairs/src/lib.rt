@@ -1,4 +1,6 @@
 // Candidates of a face, sought the way that is less work.
+#![tactic(auto)]
+
 ghost use Rattle.std.specs.Prelude.{◌≡◌, ◌*◌, ◌≤◌, ◌^◌, length};
 ghost use Rattle.laws.specs.Lists.{pairs_of, triples_of};
 ghost use Rattle.index.specs.Faces.{input, base, Laid, Room, Indexed};

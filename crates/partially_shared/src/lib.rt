@@ -1,5 +1,7 @@
 // Partly shared pairs, by first cell: each later cell is marked with its lowest face pair, and then the marked cells are written in order,
 // found in the range that has them all or, where few are marked in a wide range, in a sorted list of them.
+#![tactic(auto)]
+
 ghost use Rattle.std.specs.Prelude.{◌≡◌, ◌≢◌, [], ◌∷◌, ◌+◌, ◌-◌, ◌*◌, ◌^◌, ◌≤◌, ◌<◌, length, get_or, set};
 ghost use Rattle.laws.specs.Lists.{each, up_from};
 ghost use Rattle.geometry.specs.Coordinates.{node_count};

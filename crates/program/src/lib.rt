@@ -1,4 +1,6 @@
 // The program: from the bytes of standard input to those of standard output.
+#![tactic(auto)]
+
 ghost use Rattle.std.specs.Prelude.{◌*◌, ◌≤◌, length, take};
 ghost use Rattle.mesh.specs.Model.{model_of};
 ghost use Rattle.report.specs.Program.{output};

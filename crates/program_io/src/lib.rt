@@ -1,4 +1,6 @@
 // The program's run between two open files: the input is read, run, and the output written.
+#![tactic(auto)]
+
 ghost use Rattle.std.specs.Prelude.{◌≤◌, ◌<◌, length};
 ghost use Rattle.laws.specs.Limits.{input_limit};
 

@@ -1,4 +1,6 @@
 // The 64-byte record of a finding: written, and its fields read.
+#![tactic(auto)]
+
 ghost use Rattle.std.specs.Prelude.{◌≡◌, ◌+◌, ◌*◌, ◌^◌, ◌≤◌, length};
 ghost use Rattle.std.proofs.Math.Seq.{slice};
 ghost use Rattle.std.proofs.lemmas.List.Edits.{sets};

@@ -1,1 +1,2 @@
 // Nodes renumbered with their order kept, and loose nodes changed: definitions and laws only.
+#![tactic(auto)]

@@ -1,4 +1,6 @@
 // The repeated nodes of one cell: listed in the scratch of the layout, and written as findings.
+#![tactic(auto)]
+
 ghost use Rattle.std.specs.Prelude.{◌≡◌, [], ◌∷◌, map, ◌+◌, ◌*◌, ◌^◌, ◌≤◌, ◌<◌, length};
 ghost use Rattle.laws.specs.Merging.{region, AllBelow};
 ghost use Rattle.geometry.specs.Coordinates.{node_count};

@@ -1,4 +1,6 @@
 // The repeated nodes of a cell: pairs of unlike nodes of one welded number, each with the last one before it.
+#![tactic(auto)]
+
 ghost use Rattle.std.specs.Prelude.{◌≡◌, ◌∷◌, [], ◌+◌, ◌≤◌, ◌<◌, ◌^◌, length};
 ghost use Rattle.std.proofs.lemmas.List.Edits.{sets};
 ghost use Rattle.findings.specs.Rules.{pair_of};

@@ -1,4 +1,6 @@
 // Runs the program on published cases and on recorded models, and says which agree with what was published or recorded.
+#![tactic(auto)]
+
 mod cases;
 mod lent;
 mod recorded;

@@ -1,4 +1,6 @@
 // The lines of a report, written into bytes. Each function answers the place behind what it wrote.
+#![tactic(auto)]
+
 ghost use Rattle.std.specs.Prelude.{◌≡◌, [], ◌∷◌, ◌++◌, ◌+◌, ◌*◌, ◌≤◌, ◌<◌, length};
 ghost use Rattle.laws.specs.Lists.{each};
 ghost use Rattle.records.specs.Keeping.{told};

@@ -1,4 +1,6 @@
 // Filling the two ring lists of a model, raw and welded.
+#![tactic(auto)]
+
 ghost use Rattle.std.specs.Prelude.{◌≡◌, ◌≤◌, length};
 ghost use Rattle.mesh.specs.Model.{model_of};
 ghost use Rattle.mesh.specs.Acceptance.{model_refusal, work_needed};

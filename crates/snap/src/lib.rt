@@ -1,4 +1,6 @@
 // Welded numbers: nodes that lie within the tolerance of a leader get one number (`duplicates_dim_n`).
+#![tactic(auto)]
+
 mod node_order;
 mod passing;
 mod sweeping;

@@ -1,4 +1,6 @@
 // Tables of an accepted model's faces, each written by one pass over the cells: where each ring starts, the first face of each cell, and the cell of each face.
+#![tactic(auto)]
+
 ghost use Rattle.std.specs.Prelude.{◌≡◌, [], ◌∷◌, map, ◌+◌, ◌≤◌, ◌<◌, leb, length, set, replicate};
 ghost use Rattle.std.proofs.lemmas.List.Edits.{sets};
 ghost use Rattle.laws.specs.Merging.{starts_of};

@@ -1,4 +1,6 @@
 // Candidates of a face, by node triples.
+#![tactic(auto)]
+
 ghost use Rattle.std.specs.Prelude.{◌≡◌, false, [], ◌∷◌, ℕ, ◌+◌, ◌≤◌, ◌<◌, leb, length, get_or};
 ghost use Rattle.laws.specs.Lists.{only_if, each, keep};
 ghost use Rattle.laws.specs.Merging.{region, Asc};

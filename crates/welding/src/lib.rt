@@ -1,5 +1,7 @@
 // Welding among the nodes that cells name: they are marked and listed in lent work, welded, and words taken through the map.
 // A loose node, which no cell names, welds nothing.
+#![tactic(auto)]
+
 ghost use Rattle.std.specs.Prelude.{◌≡◌, false, map, ◌+◌, ◌*◌, ◌≤◌, ◌<◌, ◌^◌, length};
 ghost use Rattle.std.proofs.lemmas.List.Edits.{sets};
 ghost use Rattle.laws.specs.Lists.{keep, up_from};

@@ -1,0 +1,9 @@
+-- `floats::le_four` meets its contract.
+use native.Mathlib.Omega.{arith}
+use Rattle.floats.proofs.Bytes.{four}
+use Rattle.floats.proofs.le_four.Goals as goal
+
+pub returns : goal.returns
+returns c = let b = c in
+    let e = four b.args.s.now b.args.at b.requires in
+    (omega arith, omega arith)

@@ -1,0 +1,9 @@
+-- `floats::le_u64` meets its contract.
+use native.Mathlib.Omega.{arith}
+use Rattle.floats.proofs.Bytes.{eight}
+use Rattle.floats.proofs.le_u64.Goals as goal
+
+pub returns : goal.returns
+returns c = let b = c in
+    let e = eight b.args.s.now b.args.at b.requires in
+    omega arith
