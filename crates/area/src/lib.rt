@@ -13,7 +13,7 @@ ghost use Rattle.area.specs.Steps.{away_from, most_of, headed};
 use geometry::Point;
 
 // What the area test says of a list of nodes.
-#[derive(Drop)]
+#[derive(Clone, Copy)]
 pub enum Area {
     TooFew,
     Together,
@@ -23,14 +23,14 @@ pub enum Area {
 }
 
 // What the public area test answers: a refusal's number, or what the test says.
-#[derive(Drop)]
+#[derive(Clone, Copy)]
 pub enum AreaAnswer {
     Refused(u8),
     Says(Area),
 }
 
 // The first difference that is longer than eps.
-#[derive(Drop)]
+#[derive(Clone, Copy)]
 enum Heading {
     Along(Point),
     Missing,

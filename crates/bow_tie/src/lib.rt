@@ -18,7 +18,7 @@ const LEAST: f64 = 2.2250738585072014e-308;
 // ---- the meeting of two edges
 
 // How two edges meet: parallel, with the span of the second along the first; crossing, with the parameter on each; or not.
-#[derive(Drop)]
+#[derive(Clone, Copy)]
 pub enum Meeting {
     Parallel(f64, f64),
     Crossing(f64, f64),

@@ -14,7 +14,7 @@ ghost use Rattle.candidates.specs.Seeking.{candidates_of, Seeking};
 use mesh::Counted;
 
 // What seeking the candidates of a face answers, and by which way it was sought.
-#[derive(Drop)]
+#[derive(Clone, Copy)]
 pub struct SoughtFace {
     pub answer: Counted,
     pub tally: seek::Tally,

@@ -11,7 +11,7 @@ ghost use Rattle.index.specs.Faces.{input, nodes_of, Indexed};
 ghost use Rattle.seek.specs.Candidates.{common};
 
 // How many nodes are common, and their centre.
-#[derive(Drop)]
+#[derive(Clone, Copy)]
 pub struct Shared {
     pub count: usize,
     pub centre: geometry::Point,

@@ -10,7 +10,7 @@ ghost use Rattle.conformance.specs.Ways.{CheckingBy};
 use full_list::Choice;
 
 // What the check answers, and how many faces were sought each way.
-#[derive(Drop)]
+#[derive(Clone, Copy)]
 pub struct Checked {
     pub answer: findings::CheckAnswer,
     pub tally: seek::Tally,

@@ -11,7 +11,7 @@ ghost use Rattle.mesh.specs.Steps.{cell_with, WellCell};
 ghost use Rattle.faces.specs.Spans.{Sound, rings_in, SpanIn, RunSpan, CellSpan, CellFound};
 
 // Where a ring lies: its place in a PHED's words, its start among all ring words, its length.
-#[derive(Drop)]
+#[derive(Clone, Copy)]
 pub struct Span {
     pub at: usize,
     pub start: usize,
@@ -19,7 +19,7 @@ pub struct Span {
 }
 
 // A cell by its number and the place of its words, a face of it, and the ring words before the cell.
-#[derive(Drop)]
+#[derive(Clone, Copy)]
 pub struct Place {
     pub cell: usize,
     pub from: usize,

@@ -16,7 +16,7 @@ ghost use Rattle.floats.specs.Steps.{Rest};
 // ---- the root
 
 // A whole root, and what is left over.
-#[derive(Drop)]
+#[derive(Clone, Copy)]
 struct RootRest {
     root: u64,
     rest: u64,
@@ -125,7 +125,7 @@ pub fn root_over(v: f64, e: f64) -> bool
 }
 
 // What the public operation on a root answers: the root, or a refusal.
-#[derive(Drop)]
+#[derive(Clone, Copy)]
 pub enum Rooted {
     Value(f64),
     Refused,

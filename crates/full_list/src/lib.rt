@@ -16,7 +16,7 @@ ghost use Rattle.full_list.specs.Found.{Ready, topology_of, butterflies_in, Kept
 use partially_shared::Counts;
 
 // Which way candidates are sought: the one that is less work, as the check does, or one of the two.
-#[derive(Drop)]
+#[derive(Clone, Copy)]
 pub enum Choice {
     LessWork,
     ByNodes,

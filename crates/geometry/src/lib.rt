@@ -14,7 +14,7 @@ const EPSILON: f64 = 2.220446049250313e-16;
 // ---- points
 
 // A point: one value of three coordinates.
-#[derive(Drop)]
+#[derive(Clone, Copy)]
 pub struct Point {
     pub x: f64,
     pub y: f64,

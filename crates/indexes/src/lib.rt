@@ -9,7 +9,7 @@ ghost use Rattle.layout.specs.Tables.{Standing};
 ghost use Rattle.layout.specs.Shown.{Tabled};
 
 // How candidates are sought: whether the search by common nodes is less work, and the second index.
-#[derive(Drop)]
+#[derive(Clone, Copy)]
 pub struct Search {
     pub by_nodes: bool,
     pub by: index::Places,

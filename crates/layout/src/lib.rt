@@ -8,7 +8,7 @@ ghost use Rattle.layout.specs.Tables.{first_of, Faced, Ringed};
 // The regions in their order, with the words of each: weld (nodes), rings (total), rows (faces + 1), firsts (cells + 1), then of the
 // pair search bows (cells) and cells (faces), keys (total), and again of the search starts, sets, offsets, index; second (the second
 // index), and found; behind them marks and others (cells each), last (nodes), pairs and spare (2 * words each). A face's ring and its key start at the same row.
-#[derive(Drop)]
+#[derive(Clone, Copy)]
 pub struct Layout {
     pub at: index::Places,
     pub total: usize,

@@ -10,7 +10,7 @@ ghost use Rattle.mesh.specs.Acceptance.{ends_off, kind_off, node_off};
 ghost use Rattle.mesh.specs.Steps.{lead, cell_with, RunsCounted, KindCounted, CellCounted, CellsCounted, ModelCounted};
 
 // The check flags.
-#[derive(Drop)]
+#[derive(Clone, Copy)]
 pub struct Checks(pub u8);
 
 impl Checks {
@@ -35,14 +35,14 @@ impl Checks {
 }
 
 // One of the two ring lists.
-#[derive(Drop)]
+#[derive(Clone, Copy)]
 pub enum RingList {
     Raw,
     Welded,
 }
 
 // What an operation that counts answers: a refusal's number, or the count.
-#[derive(Drop)]
+#[derive(Clone, Copy)]
 pub enum Counted {
     Refused(u8),
     Count(u32),
@@ -52,7 +52,7 @@ pub enum Counted {
 pub const SEPARATOR: u32 = 4294967295;
 
 // What is counted of a PHED's words: whether a ring is too long, its faces and the words of these.
-#[derive(Drop)]
+#[derive(Clone, Copy)]
 pub struct RunTally {
     pub long: bool,
     pub faces: usize,
@@ -60,7 +60,7 @@ pub struct RunTally {
 }
 
 // What is judged and counted of cells: a refusal or 0, faces and ring words.
-#[derive(Drop)]
+#[derive(Clone, Copy)]
 pub struct CellTally {
     pub refusal: u8,
     pub faces: usize,

@@ -2,7 +2,7 @@
 #![tactic(auto)]
 
 // What a record is, by its first byte.
-#[derive(Drop)]
+#[derive(Clone, Copy)]
 pub enum Letter {
     Node,
     Cell,
@@ -12,7 +12,7 @@ pub enum Letter {
 }
 
 // What a file holds besides the lists.
-#[derive(Drop)]
+#[derive(Clone, Copy)]
 pub struct Found {
     pub nodes: usize,
     pub cells: usize,
@@ -23,14 +23,14 @@ pub struct Found {
 }
 
 // What reading answers: a refusal's number, or what was found.
-#[derive(Drop)]
+#[derive(Clone, Copy)]
 pub enum ReadAnswer {
     Refused(u8),
     Read(Found),
 }
 
 // What writing answers: a refusal's number, or how many bytes were written.
-#[derive(Drop)]
+#[derive(Clone, Copy)]
 pub enum WriteAnswer {
     Refused(u8),
     Written(usize),

@@ -15,7 +15,7 @@ mod judging; // one pass over the records: the first refusal, or what the file h
 mod filling; // one more pass, which fills the lists
 
 // How far the lists are filled.
-#[derive(Drop)]
+#[derive(Clone, Copy)]
 pub struct Place {
     pub coords: usize,
     pub cells: usize,
@@ -23,7 +23,7 @@ pub struct Place {
 }
 
 // What the judging pass finds: a refusal, or 0 and what the file holds.
-#[derive(Drop)]
+#[derive(Clone, Copy)]
 pub struct Tally {
     pub refusal: u8,
     pub place: Place,

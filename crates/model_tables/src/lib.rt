@@ -22,7 +22,7 @@ ghost use Rattle.model_tables.specs.Planned.{Searched, Planned};
 use layout::Layout;
 
 // Where the regions of the scratch start.
-#[derive(Drop)]
+#[derive(Clone, Copy)]
 pub struct Scratch {
     pub marks: usize,
     pub others: usize,

@@ -14,7 +14,7 @@ ghost use Rattle.overfull.specs.Alike.{same_as, alike, start, noted, tallied, Li
 ghost use Rattle.layout.specs.Kept.{KeptAny};
 
 // How many faces with one key are met, and the second of them; before there is one, the face that is asked for.
-#[derive(Drop)]
+#[derive(Clone, Copy)]
 struct Tally {
     count: usize,
     second: usize,

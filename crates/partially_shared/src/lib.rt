@@ -21,7 +21,7 @@ use noting::note_cell;
 mod noting; // the faces of a cell: candidates sought, later cells marked
 
 // The cells from lo on, before hi, and how many are listed: one more than the layout's `words` where the list is too short for all.
-#[derive(Drop)]
+#[derive(Clone, Copy)]
 pub struct Range {
     pub lo: usize,
     pub hi: usize,
@@ -29,14 +29,14 @@ pub struct Range {
 }
 
 // What the faces of a cell noted so far: the range of marked cells, and how many faces were sought each way.
-#[derive(Drop)]
+#[derive(Clone, Copy)]
 pub struct Noted {
     pub range: Range,
     pub tally: seek::Tally,
 }
 
 // How many findings there are, and how many faces were sought each way.
-#[derive(Drop)]
+#[derive(Clone, Copy)]
 pub struct Counts {
     pub findings: usize,
     pub tally: seek::Tally,

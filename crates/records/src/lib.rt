@@ -10,7 +10,7 @@ ghost use Rattle.records.specs.Read.{fields_in};
 ghost use Rattle.records.specs.Keeping.{told, field_bytes, KeptOne};
 
 // A finding's fields: kind, first cell, second cell, item a, item b, count.
-#[derive(Drop)]
+#[derive(Clone, Copy)]
 pub struct Record {
     pub kind: u8,
     pub first: u32,

@@ -10,7 +10,7 @@ ghost use Rattle.repeats.specs.Marks.{hit, mark, weld_in, marks_in, place_of, So
 ghost use Rattle.repeats.specs.Repeats.{Ready, Listed};
 
 // Where the regions of the work lie: welded numbers and marks, one for each of the nodes; pairs; room to sort them.
-#[derive(Drop)]
+#[derive(Clone, Copy)]
 pub struct Regions {
     pub nodes: usize,
     pub weld: usize,

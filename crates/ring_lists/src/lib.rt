@@ -8,7 +8,7 @@ ghost use Rattle.ring_lists.specs.Filling.{raw_rings, Filling};
 ghost use Rattle.ring_lists.specs.Steps.{Stored};
 
 // What filling ring lists answers: a refusal's number, or how many words each list now holds.
-#[derive(Drop)]
+#[derive(Clone, Copy)]
 pub enum RingsAnswer {
     Refused(u8),
     Words(u32),

@@ -11,14 +11,14 @@ ghost use Rattle.seek.specs.Candidates.{common, shares, Ready, Sought, found_in,
 ghost use Rattle.seek.specs.Steps.{Runs, Hidden, Rising, AllRising, Passed, Begun, one, apart};
 
 // What a search answers: how many candidates it found, under the name of its own way.
-#[derive(Drop)]
+#[derive(Clone, Copy)]
 pub enum Searched {
     ByNodes(usize),
     ByTriples(usize),
 }
 
 // How many faces were sought by each way.
-#[derive(Drop)]
+#[derive(Clone, Copy)]
 pub struct Tally {
     pub nodes: usize,
     pub triples: usize,

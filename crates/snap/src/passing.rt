@@ -9,7 +9,7 @@ ghost use Rattle.snap.specs.Steps.{apart_by, outside_of, passed_of, InOrder, Rea
 use geometry::Point;
 
 // A place that was reached, and the last step's size.
-#[derive(Drop)]
+#[derive(Clone, Copy)]
 pub struct Stride {
     pub last: usize,
     pub step: usize,

@@ -12,7 +12,7 @@ ghost use Rattle.triple_keys.specs.Keys.{Keyed};
 ghost use Rattle.triples.specs.Hits.{hits_by, Open, Added, Beside, Known, NodesAt, AddedRare};
 
 // Two places of keys, the lower first, and how many faces have these.
-#[derive(Drop)]
+#[derive(Clone, Copy)]
 pub struct Two {
     pub i: usize,
     pub j: usize,

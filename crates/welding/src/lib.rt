@@ -16,7 +16,7 @@ ghost use Rattle.welding.specs.Welding.{weld_table, Welding};
 ghost use Rattle.welding.specs.Steps.{named_nodes, welded_over};
 
 // What welding answers: a refusal's number, or that the map is filled.
-#[derive(Drop)]
+#[derive(Clone, Copy)]
 pub enum WeldAnswer {
     Refused(u8),
     Filled,
