@@ -56,6 +56,6 @@ module _ (m : Model) (l : Layout) (w v : List ℕ) (lo n : ℕ) (s : Standing l 
       let p = s.spaced in
       let all : take n (drop l.at.found v) ≡ cs =
       ap₂ (λ (i : ℕ) (x : List ℕ). take i (drop l.at.found x)) q.number q.filled
-      ∙ region_same w l.at.found cs (omega (arith, few, p.marks_at, p.others_at, p.last_at, p.pairs_at_lem, p.spare_at, p.ends)) in
+      ∙ region_same w l.at.found cs (omega (arith, few, p.marks_at, p.others_at, p.last_at, p.pairs_at, p.spare_at, p.ends)) in
       let least : k ≡ min room (length cs) = omega (arith, e, q.number) in
       sym (take-take k n (drop l.at.found v) (omega (arith, e))) ∙ ap (take k) all ∙ ap (λ (i : ℕ). take i cs) least ∙ take_least room cs ∙ ap (take room) candidates_are

@@ -92,7 +92,7 @@ module _ (l : Layout) (w v : List ℕ) (s : Standing l w) (front : take l.second
   pub stands_on : Standing l v
   stands_on =
       let o : l.second ≤ l.at.found = omega (arith, s.spaced.second_ends) in
-      let n : l.at.found ≤ length v = omega (arith, long, s.spaced.marks_at, s.spaced.others_at, s.spaced.last_at, s.spaced.pairs_at_lem, s.spaced.spare_at, s.spaced.ends) in
+      let n : l.at.found ≤ length v = omega (arith, long, s.spaced.marks_at, s.spaced.others_at, s.spaced.last_at, s.spaced.pairs_at, s.spaced.spare_at, s.spaced.ends) in
       record {
         faced = subst (Faced l) (sym second_input) s.faced;
         indexed =

@@ -30,7 +30,7 @@ module _ (l : Layout) (q : Places) (w : List ℕ) (s : Standing l w) (kd : Keyed
 
   -- `found` lies within the slice
   pub room : l.at.found ≤ length w
-  room = omega (arith, s.spaced.marks_at, s.spaced.others_at, s.spaced.last_at, s.spaced.pairs_at_lem, s.spaced.spare_at, s.spaced.ends)
+  room = omega (arith, s.spaced.marks_at, s.spaced.others_at, s.spaced.last_at, s.spaced.pairs_at, s.spaced.spare_at, s.spaced.ends)
 
   -- g is a face of the second index
   pub face : g < q.faces

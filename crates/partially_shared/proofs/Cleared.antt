@@ -83,7 +83,7 @@ clearing_next l w v a b sp low p = record {
     other i = get_or-set_other v (l.marks + b) (l.others + i) 0 0 (λ e. absurd (omega (arith, e, sp.others_at, low)))
 
     own : get_or (set v (l.marks + b) 0) (l.marks + b) 0 ≡ 0
-    own = get_or-set_same v (l.marks + b) 0 0 (omega (arith, p.beside.long, sp.others_at, sp.last_at, sp.pairs_at_lem, sp.spare_at, sp.ends, low))
+    own = get_or-set_same v (l.marks + b) 0 0 (omega (arith, p.beside.long, sp.others_at, sp.last_at, sp.pairs_at, sp.spare_at, sp.ends, low))
 
     zero : (i : ℕ) → get_or v (l.marks + i) 0 ≡ 0 → (eqb b i ≡ true) ⊎ (eqb b i ≡ false) → get_or (set v (l.marks + b) 0) (l.marks + i) 0 ≡ 0
     zero i e (inl q) = ap (λ (k : ℕ). get_or (set v (l.marks + b) 0) (l.marks + k) 0) (sym (eqb-true b i q)) ∙ own
@@ -100,7 +100,7 @@ all_cleared l t w v hits r sp m p =
     (λ i h. let k : i < l.at.cell_count = omega (arith, h, long) in get_or-region l.marks l.at.cell_count v i 0 k ∙ zero i k (tested (eqb (get_or w (l.marks + i) 0) 0)) ∙ sym (get_or-replicate l.at.cell_count i 0 0 k))
   where
     long : length (region l.marks l.at.cell_count v) ≡ l.at.cell_count
-    long = length-region l.marks l.at.cell_count v (omega (arith, p.beside.long, sp.others_at, sp.last_at, sp.pairs_at_lem, sp.spare_at, sp.ends))
+    long = length-region l.marks l.at.cell_count v (omega (arith, p.beside.long, sp.others_at, sp.last_at, sp.pairs_at, sp.spare_at, sp.ends))
 
     zero : (i : ℕ) → i < l.at.cell_count → (eqb (get_or w (l.marks + i) 0) 0 ≡ true) ⊎ (eqb (get_or w (l.marks + i) 0) 0 ≡ false) → get_or v (l.marks + i) 0 ≡ 0
     zero i k (inl e) = p.still i k (eqb-true (get_or w (l.marks + i) 0) 0 e)

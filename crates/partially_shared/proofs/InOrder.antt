@@ -146,7 +146,7 @@ module _ (c : List Float) (room n : ℕ) (l : Layout) (w : List ℕ) (i count : 
           → Visiting c room n l w i count f u e m (b + 1) (j + 1)
       visiting_next u e m s q kept set_is few long = record {
         telling = telling_next c room n l w i 0 f v g k b u e m s listed_low (telling_skip c room n l (input l.at w) w i 0 f v g k next b q between p.telling) kept set_is few long;
-        behind = ap (drop l.pairs) set_is ∙ drop-set-lt l.pairs v (l.marks + b) 0 (omega (arith, listed_low, s.spaced.others_at, s.spaced.last_at, s.spaced.pairs_at_lem)) ∙ p.behind;
+        behind = ap (drop l.pairs) set_is ∙ drop-set-lt l.pairs v (l.marks + b) 0 (omega (arith, listed_low, s.spaced.others_at, s.spaced.last_at, s.spaced.pairs_at)) ∙ p.behind;
         rising = ordered.1;
         known = known_on;
         there = λ x h y z. later x h (omega (arith, y, q)) (λ d. absurd (omega (arith, d, y))) z;

@@ -156,8 +156,8 @@ list_beside l b n w sp = go (ltb n l.words)
   where
     go : (x : Bool) → Beside l.marks l w (cond x (set w (l.pairs + 2 * n) b) w)
     go true = record {
-      before = take-set-le l.marks w (l.pairs + 2 * n) b (omega (arith, sp.others_at, sp.last_at, sp.pairs_at_lem));
-      behind = region_set_after l.last l.at.nodes w (l.pairs + 2 * n) b (omega (arith, sp.pairs_at_lem));
+      before = take-set-le l.marks w (l.pairs + 2 * n) b (omega (arith, sp.others_at, sp.last_at, sp.pairs_at));
+      behind = region_set_after l.last l.at.nodes w (l.pairs + 2 * n) b (omega (arith, sp.pairs_at));
       long = length-set w (l.pairs + 2 * n) b;
     }
     go false = record { before = refl; behind = refl; long = refl }
@@ -183,7 +183,7 @@ listed_more l c n k w v sp long low same other p is fits = go (tested (ltb n l.w
         (get_or-set_same v (l.pairs + 2 * n) c 0 (omega (arith, long, h, sp.spare_at, sp.ends)))
 
     mark : (b : ℕ) → b < l.at.cell_count → get_or u (l.marks + b) 0 ≡ get_or v (l.marks + b) 0
-    mark b h = get_or-set_other v (l.pairs + 2 * n) (l.marks + b) c 0 (λ e. absurd (omega (arith, e, h, sp.others_at, sp.last_at, sp.pairs_at_lem)))
+    mark b h = get_or-set_other v (l.pairs + 2 * n) (l.marks + b) c 0 (λ e. absurd (omega (arith, e, h, sp.others_at, sp.last_at, sp.pairs_at)))
 
     more : n < l.words → Listed l u (n + 1)
     more h =

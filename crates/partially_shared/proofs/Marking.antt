@@ -135,10 +135,10 @@ module _ (R : Rules) (l : Layout) (t : List ℕ) (f g : ℕ) where
 
       -- listing changes no mark
       mark_as : (b : ℕ) → b < l.at.cell_count → get_or v (l.marks + b) 0 ≡ get_or q (l.marks + b) 0
-      mark_as b k = list_before l c r.count q (l.marks + b) (omega (arith, k, sp.others_at, sp.last_at, sp.pairs_at_lem))
+      mark_as b k = list_before l c r.count q (l.marks + b) (omega (arith, k, sp.others_at, sp.last_at, sp.pairs_at))
 
       other_as : (b : ℕ) → b < l.at.cell_count → get_or v (l.others + b) 0 ≡ get_or q (l.others + b) 0
-      other_as b k = list_before l c r.count q (l.others + b) (omega (arith, k, sp.last_at, sp.pairs_at_lem))
+      other_as b k = list_before l c r.count q (l.others + b) (omega (arith, k, sp.last_at, sp.pairs_at))
 
       -- the words of other cells are as they were
       mark_first : (b : ℕ) → b < l.at.cell_count → c ≢ b → get_or q (l.marks + b) 0 ≡ get_or w (l.marks + b) 0
@@ -161,11 +161,11 @@ module _ (R : Rules) (l : Layout) (t : List ℕ) (f g : ℕ) where
           let e : f + 1 ≡ suc f = omega arith in
           mark_as c low
           ∙ get_or-set_other (set w (l.marks + c) (f + 1)) (l.others + c) (l.marks + c) g 0 (λ e. absurd (omega (arith, e, sp.others_at, low)))
-          ∙ get_or-set_same w (l.marks + c) (f + 1) 0 (omega (arith, sp.others_at, sp.last_at, sp.pairs_at_lem, sp.spare_at, sp.ends, low))
+          ∙ get_or-set_same w (l.marks + c) (f + 1) 0 (omega (arith, sp.others_at, sp.last_at, sp.pairs_at, sp.spare_at, sp.ends, low))
           ∙ e
 
       other_own : get_or v (l.others + c) 0 ≡ g
-      other_own = other_as c low ∙ get_or-set_same (set w (l.marks + c) (f + 1)) (l.others + c) g 0 (omega (arith, length-set w (l.marks + c) (f + 1), sp.last_at, sp.pairs_at_lem, sp.spare_at, sp.ends, low))
+      other_own = other_as c low ∙ get_or-set_same (set w (l.marks + c) (f + 1)) (l.others + c) g 0 (omega (arith, length-set w (l.marks + c) (f + 1), sp.last_at, sp.pairs_at, sp.spare_at, sp.ends, low))
 
       -- a pair that passes marks its cell, where that is not marked yet
       pub marked_in : (s : Range) → get_or w (l.marks + c) 0 ≡ 0 → spans_at R l t f g ≡ true → (s.lo ≤ r.lo) × (s.lo ≤ c) × Higher r.hi (c + 1) s.hi × (s.count ≡ list_count l r.count) → Marked l t (H ++ passing R l t f (g ∷ [])) v s
@@ -175,7 +175,7 @@ module _ (R : Rules) (l : Layout) (t : List ℕ) (f g : ℕ) where
           long = length-set (set w (l.marks + c) (f + 1)) (l.others + c) g ∙ length-set w (l.marks + c) (f + 1)
 
           behind : drop l.pairs q ≡ drop l.pairs w
-          behind = drop-set-lt l.pairs (set w (l.marks + c) (f + 1)) (l.others + c) g (omega (arith, low, sp.last_at, sp.pairs_at_lem)) ∙ drop-set-lt l.pairs w (l.marks + c) (f + 1) (omega (arith, low, sp.others_at, sp.last_at, sp.pairs_at_lem))
+          behind = drop-set-lt l.pairs (set w (l.marks + c) (f + 1)) (l.others + c) g (omega (arith, low, sp.last_at, sp.pairs_at)) ∙ drop-set-lt l.pairs w (l.marks + c) (f + 1) (omega (arith, low, sp.others_at, sp.last_at, sp.pairs_at))
 
           mark : (b : ℕ) → b < l.at.cell_count → MarkIs (get_or v (l.marks + b) 0) (get_or v (l.others + b) 0) (hit_of l t b (H ++ passing R l t f (g ∷ [])))
           mark b k = go (tested (eqb (cell_of l.at t g) b))

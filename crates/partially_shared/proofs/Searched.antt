@@ -66,7 +66,7 @@ face_ready l w f s h = record {
   indexed = s.indexed;
   below = s.below;
   face = h;
-  room = omega (arith, s.spaced.marks_at, s.spaced.others_at, s.spaced.last_at, s.spaced.pairs_at_lem, s.spaced.spare_at, s.spaced.ends);
+  room = omega (arith, s.spaced.marks_at, s.spaced.others_at, s.spaced.last_at, s.spaced.pairs_at, s.spaced.spare_at, s.spaced.ends);
 }
 
 -- ---- what is marked
@@ -176,7 +176,7 @@ module _ (l : Layout) (w u : List ℕ) (f n : ℕ) (s : Searching l w) (found : 
   pub sought_there : region l.at.found n u ≡ candidates l.at (input l.at u) f
   sought_there =
       ap₂ (λ (k : ℕ) (v : List ℕ). region l.at.found k v) found.number found.filled
-      ∙ region_same w l.at.found cs (omega (arith, fits, s.spaced.others_at, s.spaced.last_at, s.spaced.pairs_at_lem, s.spaced.spare_at, s.spaced.ends))
+      ∙ region_same w l.at.found cs (omega (arith, fits, s.spaced.others_at, s.spaced.last_at, s.spaced.pairs_at, s.spaced.spare_at, s.spaced.ends))
       ∙ ap (λ (t : List ℕ). candidates l.at t f) (sym (input_on l w u s sought_beside))
 
   pub sought_number : n ≡ length (candidates l.at (input l.at u) f)
@@ -189,5 +189,5 @@ module _ (l : Layout) (w u : List ℕ) (f n : ℕ) (s : Searching l w) (found : 
   -- so what is marked after it is marked from before it
   pub sought_more : (R : Rules) (v : List ℕ) (q r : Range) → MarkedMore l (input l.at u) (face_hits R l (input l.at u) f) u v q r → MarkedMore l (input l.at w) (face_hits R l (input l.at w) f) w v q r
   sought_more R v q r a =
-      more_from l (input l.at w) (face_hits R l (input l.at w) f) w u v q r sought_marks (omega (arith, s.spaced.others_at)) (omega (arith, s.spaced.others_at, s.spaced.last_at, s.spaced.pairs_at_lem))
+      more_from l (input l.at w) (face_hits R l (input l.at w) f) w u v q r sought_marks (omega (arith, s.spaced.others_at)) (omega (arith, s.spaced.others_at, s.spaced.last_at, s.spaced.pairs_at))
       (subst (λ (t : List ℕ). MarkedMore l t (face_hits R l t f) u v q r) (input_on l w u s sought_beside) a)

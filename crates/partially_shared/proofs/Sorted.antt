@@ -46,21 +46,21 @@ module _ (l : Layout) (w : List ℕ) (n : ℕ) (s : Searching l w) (fits : n ≤
         ∙ get_or_before w l.pairs xs i 0 h
 
     mark : (b : ℕ) → b < l.at.cell_count → get_or u (l.marks + b) 0 ≡ get_or w (l.marks + b) 0
-    mark b h = word (l.marks + b) (omega (arith, h, s.spaced.others_at, s.spaced.last_at, s.spaced.pairs_at_lem))
+    mark b h = word (l.marks + b) (omega (arith, h, s.spaced.others_at, s.spaced.last_at, s.spaced.pairs_at))
 
     other : (b : ℕ) → b < l.at.cell_count → get_or u (l.others + b) 0 ≡ get_or w (l.others + b) 0
-    other b h = word (l.others + b) (omega (arith, h, s.spaced.last_at, s.spaced.pairs_at_lem))
+    other b h = word (l.others + b) (omega (arith, h, s.spaced.last_at, s.spaced.pairs_at))
 
     beside : Beside l.marks l w u
     beside = record {
       before =
           ap (take l.marks) is
-          ∙ take_before l.marks (sets w l.pairs xs) l.spare xs (omega (arith, s.spaced.others_at, s.spaced.last_at, s.spaced.pairs_at_lem, s.spaced.spare_at))
-          ∙ take_before l.marks w l.pairs xs (omega (arith, s.spaced.others_at, s.spaced.last_at, s.spaced.pairs_at_lem));
+          ∙ take_before l.marks (sets w l.pairs xs) l.spare xs (omega (arith, s.spaced.others_at, s.spaced.last_at, s.spaced.pairs_at, s.spaced.spare_at))
+          ∙ take_before l.marks w l.pairs xs (omega (arith, s.spaced.others_at, s.spaced.last_at, s.spaced.pairs_at));
       behind =
           ap (region l.last l.at.nodes) is
-          ∙ region_before l.last l.at.nodes (sets w l.pairs xs) l.spare xs (omega (arith, s.spaced.pairs_at_lem, s.spaced.spare_at))
-          ∙ region_before l.last l.at.nodes w l.pairs xs (omega (arith, s.spaced.pairs_at_lem));
+          ∙ region_before l.last l.at.nodes (sets w l.pairs xs) l.spare xs (omega (arith, s.spaced.pairs_at, s.spaced.spare_at))
+          ∙ region_before l.last l.at.nodes w l.pairs xs (omega (arith, s.spaced.pairs_at));
       long = long;
     }
 

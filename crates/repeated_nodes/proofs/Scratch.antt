@@ -39,7 +39,7 @@ module _ (l : Layout) (w words : List ℕ) (s : Standing l w) (few : length word
   pub ready : Ready words w (scratch_of l)
   ready = record {
     first = omega (arith, s.faced.weld_at, s.below, found_first);
-    second = s.spaced.pairs_at_lem;
+    second = s.spaced.pairs_at;
     third = omega (arith, s.spaced.spare_at, few);
     fourth = omega (arith, s.spaced.ends, few);
     small = omega (arith, s.spaced.few_nodes);

@@ -57,7 +57,7 @@ room p =
     let q = s.spaced in
     let n = number_low (model (at_start (at-tables x))) l x.index-faces.last.0 z.candidates-of.last.0 (at_start (at-tables x)).args.face (found_in z.candidates-of.result) s (shows x) (low x) z.candidates-of.ensures.0.sought in
     let e = p.before.count.ensures in
-    (omega (arith, n, e, p.lesser.ensures, z.candidates-of.kept.0, q.marks_at, q.others_at, q.last_at, q.pairs_at_lem, q.spare_at, q.ends), omega (arith, n, e, q.few_faces), q.few_below)
+    (omega (arith, n, e, p.lesser.ensures, z.candidates-of.kept.0, q.marks_at, q.others_at, q.last_at, q.pairs_at, q.spare_at, q.ends), omega (arith, n, e, q.few_faces), q.few_below)
 
 build-tables-requires : tie.Need-build-tables-requires
 build-tables-requires c κs = search rules

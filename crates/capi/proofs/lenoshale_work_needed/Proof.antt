@@ -23,7 +23,7 @@ returns c =
     let a = c.before.before.before.before.before.before.before.before.args in
     let m = model_of a.coords.now a.kinds.now a.ends.now a.words.now a.tolerance a.flags 0 in
     let t = c.before.before.before.accept in
-    work_refused m a.need.now a.ring_words_lem.now a.faces.now t.result t.ensures c.before.if1.true
+    work_refused m a.need.now a.ring_words.now a.faces.now t.result t.ensures c.before.if1.true
 
 work-needed-requires : tie.Need-work-needed-requires
 work-needed-requires c κs =
@@ -39,7 +39,7 @@ returns-2 c =
     let a = c.before.before.before.before.before.before.before.before.args in
     let m = model_of a.coords.now a.kinds.now a.ends.now a.words.now a.tolerance a.flags 0 in
     let t = c.before.before.before.accept in
-    work_done m a.need.now a.ring_words_lem.now a.faces.now t.result t.ensures _ c.before.if1.false c.work-needed.ensures
+    work_done m a.need.now a.ring_words.now a.faces.now t.result t.ensures _ c.before.if1.false c.work-needed.ensures
 
 pub lenoshale-work-needed-spec : {M : Type 1} → statement M
 lenoshale-work-needed-spec =

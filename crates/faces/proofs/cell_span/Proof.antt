@@ -76,7 +76,7 @@ returns-4 c =
     let s = c.before.before.before.before.before in
     let a = s.args in
     let e = the_fourth a.kind s.requires.0.kind c.before.before.before.if1.false c.before.before.if2.false c.before.if3.false in
-    phed_span_lem a.kind a.words.now a.face _ e c.phed_span_lem.ensures
+    phed_span_lem a.kind a.words.now a.face _ e c.phed_span.ensures
 
 pub cell-span-spec : {M : Type 1} → statement M
 cell-span-spec =

@@ -21,7 +21,7 @@ index-keys-requires c κs =
     let p = s.spaced in (
       s.indexed,
       (
-        (p.second_at, p.second_ends, omega (arith, p.marks_at, p.others_at, p.last_at, p.pairs_at_lem, p.spare_at, p.ends)),
+        (p.second_at, p.second_ends, omega (arith, p.marks_at, p.others_at, p.last_at, p.pairs_at, p.spare_at, p.ends)),
         (omega arith, omega (arith, p.few_total), p.few_nodes, p.few_faces, p.few_words, p.few_below),
       ),
     )

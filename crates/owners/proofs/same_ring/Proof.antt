@@ -46,7 +46,7 @@ same-words-requires c κs = search rules
 returns-2 : tie.Need-returns-2
 returns-2 c =
     let a = c.before.before.before.before.before.before.before.before.before.before.before.before.args in
-    c.same_words_lem.ensures
+    c.same_words.ensures
     ∙ ap (eql a.key.now) (part_front (length a.ring.now) _ ∙ sorted_front _ a.ring.now _ _ _ (omega arith) refl c.before.before.before.before.before.before.before.put-words.ensures c.before.before.before.before.sort-words.ensures)
 
 pub same-ring-spec : {M : Type 1} → statement M

@@ -43,7 +43,7 @@ slice-aggregate-shared-of : tie.Need-slice-aggregate-shared-of
 slice-aggregate-shared-of c =
     let b = c.before.before.before.before.before.before.before.before.before.before.before in
     let p = b.requires.0.spaced in
-    sym (length-take-le b.args.l.at.found b.args.work.now (omega (arith, p.marks_at, p.others_at, p.last_at, p.pairs_at_lem, p.spare_at, p.ends)))
+    sym (length-take-le b.args.l.at.found b.args.work.now (omega (arith, p.marks_at, p.others_at, p.last_at, p.pairs_at, p.spare_at, p.ends)))
 
 shared-of-requires : tie.Need-shared-of-requires
 shared-of-requires c κs =

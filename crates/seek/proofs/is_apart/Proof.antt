@@ -55,7 +55,7 @@ returns-3 : tie.Need-returns-3
 unfolding apart
 returns-3 c =
     let a = c.before.before.before.before.before.before.before.args in
-    sym (rw (lt-ltb a.lo a.g c.before.before.before.before.before.if1.false, others c.before.before, sym c.before.bow_at_lem.ensures ∙ c.if3.true))
+    sym (rw (lt-ltb a.lo a.g c.before.before.before.before.before.if1.false, others c.before.before, sym c.before.bow_at.ensures ∙ c.if3.true))
 
 bow-at-requires-2 : tie.Need-bow-at-requires-2
 bow-at-requires-2 c κs = search rules
@@ -64,7 +64,7 @@ returns-4 : tie.Need-returns-4
 unfolding apart
 returns-4 c =
     let a = c.before.before.before.before.before.before.before.before.args in
-    ap not c.bow-at2.ensures ∙ sym (rw (lt-ltb a.lo a.g c.before.before.before.before.before.before.if1.false, others c.before.before.before, sym c.before.before.bow_at_lem.ensures ∙ c.before.if3.false))
+    ap not c.bow-at2.ensures ∙ sym (rw (lt-ltb a.lo a.g c.before.before.before.before.before.before.if1.false, others c.before.before.before, sym c.before.before.bow_at.ensures ∙ c.before.if3.false))
 
 pub is-apart-spec : {M : Type 1} → statement M
 is-apart-spec =

@@ -30,7 +30,7 @@ same_length c = search rules
 returns : tie.Need-returns
 returns c =
     let b = c.before.before.before.before in
-    record { way = refl; sought = none_sought b.args.at b.args.lo b.args.work.now b.requires.0 (sym c.before.bow_at_lem.ensures ∙ c.if1.true) }
+    record { way = refl; sought = none_sought b.args.at b.args.lo b.args.work.now b.requires.0 (sym c.before.bow_at.ensures ∙ c.if1.true) }
 
 slice-reshare-prefix-open-runs : tie.Need-slice-reshare-prefix-open-runs
 slice-reshare-prefix-open-runs c = search rules

@@ -35,7 +35,7 @@ slice-write-work-2 : tie.Need-slice-write-work-2
 slice-write-work-2 c =
     let b = c.before.before.before.before.before in
     let p = b.requires.0 in
-    omega (arith, length-set b.args.work.now (b.args.l.marks + b.args.b) c.before.narrow.result, p.last_at, p.pairs_at_lem, p.spare_at, p.ends, b.requires.1.0)
+    omega (arith, length-set b.args.work.now (b.args.l.marks + b.args.b) c.before.narrow.result, p.last_at, p.pairs_at, p.spare_at, p.ends, b.requires.1.0)
 
 same_length : tie.Need-same-length
 same_length c = search rules

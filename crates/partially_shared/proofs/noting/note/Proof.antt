@@ -49,7 +49,7 @@ slice-aggregate-spans : tie.Need-slice-aggregate-spans
 slice-aggregate-spans c =
     let b = c.before.before.before.before.before.before.before.before.before in
     let p = b.requires.0.spaced in
-    sym (length-take-le b.args.l.at.found b.args.work.now (omega (arith, p.marks_at, p.others_at, p.last_at, p.pairs_at_lem, p.spare_at, p.ends)))
+    sym (length-take-le b.args.l.at.found b.args.work.now (omega (arith, p.marks_at, p.others_at, p.last_at, p.pairs_at, p.spare_at, p.ends)))
 
 spans-requires : tie.Need-spans-requires
 spans-requires c κs = search rules

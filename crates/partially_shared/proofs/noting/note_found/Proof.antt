@@ -28,7 +28,7 @@ add_wide c =
     let a = b.args in
     let few = candidates_few a.l.at (input a.l.at a.work.now) a.f in
     let sp = b.requires.0.spaced in
-    omega (arith, sp.marks_at, sp.others_at, sp.last_at, sp.pairs_at_lem, sp.spare_at, sp.ends, few, b.requires.1.3, c.loop-test.true)
+    omega (arith, sp.marks_at, sp.others_at, sp.last_at, sp.pairs_at, sp.spare_at, sp.ends, few, b.requires.1.3, c.loop-test.true)
 
 mul_wide : tie.Need-overflow-mul-wide invariant-loop decreases-loop
 mul_wide c =
@@ -36,7 +36,7 @@ mul_wide c =
     let a = b.args in
     let few = candidates_few a.l.at (input a.l.at a.work.now) a.f in
     let sp = b.requires.0.spaced in
-    omega (arith, sp.marks_at, sp.others_at, sp.last_at, sp.pairs_at_lem, sp.spare_at, sp.ends, few, b.requires.1.3, c.loop-test.true)
+    omega (arith, sp.marks_at, sp.others_at, sp.last_at, sp.pairs_at, sp.spare_at, sp.ends, few, b.requires.1.3, c.loop-test.true)
 
 slice-read-wide : tie.Need-slice-read-wide invariant-loop decreases-loop
 slice-read-wide c =
@@ -44,7 +44,7 @@ slice-read-wide c =
     let a = b.args in
     let few = candidates_few a.l.at (input a.l.at a.work.now) a.f in
     let sp = b.requires.0.spaced in
-    omega (arith, sp.marks_at, sp.others_at, sp.last_at, sp.pairs_at_lem, sp.spare_at, sp.ends, few, b.requires.1.3, c.before.loop-test.true, c.before.before.loop.invariant.1)
+    omega (arith, sp.marks_at, sp.others_at, sp.last_at, sp.pairs_at, sp.spare_at, sp.ends, few, b.requires.1.3, c.before.loop-test.true, c.before.before.loop.invariant.1)
 
 wide-requires : tie.Need-wide-requires invariant-loop decreases-loop
 wide-requires c κs = search rules

@@ -1,0 +1,17 @@
+-- Where the step is taken the test says that all up to there are passed over.
+use Prim.Native.Nat.{◌+◌, ◌<◌}
+use mathlib.Core.Path.{sym, ◌∙◌}
+use mathlib.Core.Logic.{inr}
+use native.Mathlib.Omega.{arith}
+use Rattle.snap.proofs.Parts.{in_slice}
+use Rattle.snap.proofs.passing.step_on.Goals as goal
+
+pub point3-m-requires : goal.point3-m-requires
+point3-m-requires c = let s = c in
+    let a = s.args in
+    let k : a.last + a.step < a.e = omega arith in
+    let h = in_slice _ a.j a.e (a.last + a.step) a.work.now s.requires.2 s.requires.3 (omega arith) k in
+    omega arith
+
+pub returns-then-passed : goal.returns-then-passed
+returns-then-passed c = (omega arith, omega arith, inr (rw (← c.point3-m.ensures) (sym c.passed.ensures ∙ c.if-passed.true)))
