@@ -1,6 +1,5 @@
 -- `bow_tie::face_self_intersects` meets its contract: the invariant: an edge that meets a later one is among those left if there is one at all.
 use mathlib.Core.Path.{sym, ◌∙◌}
-use Prim.Native.Nat.{◌-◌}
 use lib.ListN.{length}
 use borrow.Author.Rules.{rules}
 use Rattle.bow_tie.specs.BowTie.{later_meets}

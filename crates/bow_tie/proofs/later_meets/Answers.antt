@@ -1,5 +1,4 @@
 -- `bow_tie::later_meets` meets its contract. The invariant: a later edge that meets is among those left if there is one at all.
-use Prim.Native.Nat.{◌-◌}
 use mathlib.Core.Path.{sym, ◌∙◌}
 use lib.ListN.{length}
 use Rattle.geometry.specs.Points.{points_of}
