@@ -59,7 +59,7 @@ returns-then-thick c =
           (apart c.margin-eps.result (away_from c.point3-o.result (points_of a.coords.now (drop 1 a.nodes.now)))
           (rw c.extent-far.ensures at c.if-far-eps.false));
     } in
-    spans (judged) c.heading-1.given.1 c.thick.ensures c.if-thick.true
+    spans (judged) c.in-Along.is c.thick.ensures c.if-thick.true
 
 pub returns-else-thick : goal.returns-else-thick
 returns-else-thick c =
@@ -78,7 +78,7 @@ returns-else-thick c =
           (apart c.margin-eps.result (away_from c.point3-o.result (points_of a.coords.now (drop 1 a.nodes.now)))
           (rw c.extent-far.ensures at c.if-far-eps.false));
     } in
-    thin (judged) c.heading-1.given.1 c.thick.ensures c.if-thick.false
+    thin (judged) c.in-Along.is c.thick.ensures c.if-thick.false
 
 pub returns-in-Missing : goal.returns-in-Missing
 returns-in-Missing c =
@@ -97,4 +97,4 @@ returns-in-Missing c =
           (apart c.margin-eps.result (away_from c.point3-o.result (points_of a.coords.now (drop 1 a.nodes.now)))
           (rw c.extent-far.ensures at c.if-far-eps.false));
     } in
-    no_direction (judged) c.enum_told-1.given.1
+    no_direction (judged) c.in-Missing.is

@@ -1,5 +1,4 @@
 -- `area::list_off` meets its contract. The invariant: the numbers left, from `next` on, are off if the list is.
-use Prim.Native.Nat.{◌-◌}
 use mathlib.Core.Path.{refl, sym, ◌∙◌}
 use native.Mathlib.Omega.{arith}
 use Rattle.area.proofs.Refused.{off_low, off_high, off_next, off_end}

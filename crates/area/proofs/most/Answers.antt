@@ -1,5 +1,5 @@
 -- `area::most` meets its contract. The invariant: the largest so far and the nodes left give the largest of all.
-use Prim.Native.Nat.{◌-◌, ◌≤◌, ◌<◌}
+use Prim.Native.Nat.{◌≤◌, ◌<◌}
 use native.Mathlib.Omega.{arith}
 use lib.ListN.{length}
 use Rattle.floats.proofs.Constants.{zero_bits}
