@@ -4,7 +4,7 @@ use Rattle.snap.proofs.Parts.{slice_none}
 use native.Mathlib.Numerals.{add-one}
 use lib.Seq.{slice-cons}
 use mathlib.Core.Path.{◌∙◌}
-use Prim.Native.Nat.{◌≤◌, ◌-◌}
+use Prim.Native.Nat.{◌≤◌}
 use native.Mathlib.Omega.{arith}
 use Rattle.snap.proofs.sweeping.least.Goals as goal
 

@@ -4,7 +4,7 @@ use native.Mathlib.Numerals.{add-one}
 use lib.Seq.{slice-cons, take-set-le}
 use lib.ListN.{get_or, length-set}
 use mathlib.Core.Path.{◌≡◌, refl, ◌∙◌}
-use Prim.Native.Nat.{◌+◌, ◌≤◌, ◌<◌, ◌-◌}
+use Prim.Native.Nat.{◌+◌, ◌≤◌, ◌<◌}
 use native.Mathlib.Omega.{arith}
 use lib.ListN.{length}
 use borrow.Author.Rules.{rules}

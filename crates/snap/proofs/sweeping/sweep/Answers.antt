@@ -6,7 +6,7 @@ use Rattle.snap.proofs.Parts.{slice_none, slice_to, nodes_rest}
 use Rattle.snap.proofs.Between.{order_kept}
 use mathlib.Core.List.{List}
 use mathlib.Core.Path.{refl, sym, ap, ◌∙◌}
-use Prim.Native.Nat.{ℕ, ◌≤◌, ◌-◌}
+use Prim.Native.Nat.{ℕ, ◌≤◌}
 use native.Mathlib.Omega.{arith}
 use borrow.Author.Rules.{rules}
 use Rattle.snap.proofs.sweeping.sweep.Goals as goal

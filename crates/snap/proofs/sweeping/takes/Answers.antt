@@ -1,5 +1,5 @@
 -- A turn of the walk is a law of `Taking`; this file names the places.
-use Prim.Native.Nat.{◌≤◌, ◌<◌, ◌-◌, ◌/◌}
+use Prim.Native.Nat.{◌≤◌, ◌<◌, ◌/◌}
 use native.Mathlib.Omega.{arith}
 use lib.ListN.{length, get_or}
 use Rattle.snap.proofs.Taking.{begun, ended, is_node, skipped, jumped, stopped, joined, past_asks}
