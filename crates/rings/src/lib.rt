@@ -111,7 +111,7 @@ fn put_run(words: &[u32], i: usize, e: usize, out: &mut [u32], at: usize) -> usi
 // A PHED's rings; answers the place behind them.
 fn put_phed(words: &[u32], out: &mut [u32], at: usize) -> usize
     requires { at + ring_total (phed_rings words.now) ≤ length out.old }
-    ensures* { λ r. ⌜ (r ≡ at + ring_total (phed_rings words.now)) × (out.new ≡ sets out.old at (each (λ r. r) (phed_rings words.now))) ⌝ }
+    ensures { (result ≡ at + ring_total (phed_rings words.now)) × (out.new ≡ sets out.old at (each (λ r. r) (phed_rings words.now))) }
 {
     let mut k = at;
     let mut i: usize = 0;
@@ -126,7 +126,7 @@ fn put_phed(words: &[u32], out: &mut [u32], at: usize) -> usize
 // A cell's rings; answers the place behind them.
 pub fn put_cell(kind: u8, words: &[u32], out: &mut [u32], at: usize) -> usize
     requires { WellCell (cell_with kind words.now) × (at + ring_total (rings_of (cell_with kind words.now)) ≤ length out.old) }
-    ensures* { λ r. ⌜ (r ≡ at + ring_total (rings_of (cell_with kind words.now))) × (out.new ≡ sets out.old at (each (λ r. r) (rings_of (cell_with kind words.now)))) ⌝ }
+    ensures { (result ≡ at + ring_total (rings_of (cell_with kind words.now))) × (out.new ≡ sets out.old at (each (λ r. r) (rings_of (cell_with kind words.now)))) }
 {
     if kind == 1 {
         put_tet(words, out, at);
@@ -146,7 +146,7 @@ pub fn put_cell(kind: u8, words: &[u32], out: &mut [u32], at: usize) -> usize
 // The rings of all cells; answers the place behind them.
 pub fn put_cells(kinds: &[u8], ends: &[u32], words: &[u32], out: &mut [u32], at: usize) -> usize
     requires { (length kinds.now ≡ length ends.now) × (ends_off 0 ends.now (length words.now) ≡ false) × WellCells (cells_from 0 kinds.now ends.now words.now) × (at + ring_total (each rings_of (cells_from 0 kinds.now ends.now words.now)) ≤ length out.old) }
-    ensures* { λ r. ⌜ (r ≡ at + ring_total (each rings_of (cells_from 0 kinds.now ends.now words.now))) × (out.new ≡ sets out.old at (each (λ r. r) (each rings_of (cells_from 0 kinds.now ends.now words.now)))) ⌝ }
+    ensures { (result ≡ at + ring_total (each rings_of (cells_from 0 kinds.now ends.now words.now))) × (out.new ≡ sets out.old at (each (λ r. r) (each rings_of (cells_from 0 kinds.now ends.now words.now)))) }
 {
     let mut k = at;
     let mut from: usize = 0;
