@@ -1,0 +1,8 @@
+use Prim.Native.Nat.{◌+◌}
+use lib.Seq.{slice}
+use Rattle.model_read.proofs.ZeroBytes.{zero_read}
+use Rattle.model_read.proofs.judging.zero_two.Goals as goal
+
+pub returns : goal.returns
+returns c = let a = c.args in
+    zero_read (slice a.at (a.at + 2) a.r.now) c.le_two.result c.le_two.ensures.0
