@@ -5,7 +5,7 @@ use mathlib.Core.List.{List, [], ◌∷◌, map}
 use native.Mathlib.Omega.{arith}
 use native.Mathlib.Nat.{add-zero}
 use lib.ListN.{length, get_or}
-use lib.Seq.{sets, get_or-take}
+use lib.Seq.{get_or-take}
 use Rattle.laws.specs.Merging.{region}
 use Rattle.laws.proofs.Stores.{region-take}
 use Rattle.counting.specs.Counts.{below}

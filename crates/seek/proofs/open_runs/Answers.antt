@@ -1,0 +1,36 @@
+-- `seek::open_runs` meets its contract. The places of the runs are the offsets of lo's nodes and of their next: laws of Read.
+use Prim.Native.Nat.{ℕ, ◌+◌, ◌<◌, ◌≤◌, ◌^◌}
+use mathlib.Core.List.{List}
+use mathlib.Core.Path.{◌≡◌, refl, ap, ◌∙◌}
+use native.Mathlib.Omega.{arith}
+use lib.Seq.{sets}
+use lib.ListN.{length, get_or}
+use Rattle.index.specs.declared.Places.{Places}
+use Rattle.index.specs.Faces.{input, start_of, nodes_of, words_of, Indexed}
+use Rattle.seek.proofs.Read.{long, nodes_fit, slot_low, value_low, the_places, no_more}
+use Rattle.seek.proofs.open_runs.Goals as goal
+
+-- what `places` requires
+asks : (p : Places) (b : List ℕ) → Indexed p b → length b < 2 ^ 62 → (lo : ℕ) → lo < p.faces → (s k : ℕ) → s ≡ p.sets + start_of p (input p b) lo → k ≡ length (nodes_of p (input p b) lo) → (o d : ℕ) → d ≤ 1 → o ≡ p.offsets + d
+    → (k ≤ 64) × (s + k ≤ length b) × ((i : ℕ) → i < k → o + get_or b (s + i) 0 < length b) × (p.index + length b < 2 ^ 63) × ((i : ℕ) → i < k → get_or b (o + get_or b (s + i) 0) 0 ≤ length b)
+asks p b ix fit lo h s k is-s is-k o d d≤1 is-o =
+    let f = nodes_fit p b ix lo h s k is-s is-k o d d≤1 is-o in
+    (f.0, f.1, slot_low p b ix lo h s k is-s is-k o d d≤1 is-o, omega (arith, long p b ix, ix.index_at), value_low p b ix lo h s k is-s is-k o d d≤1 is-o)
+
+pub places-requires : goal.places-requires
+places-requires c = let a = c.args in
+    let q = c.requires in
+    asks a.at a.base.now q.indexed (omega (arith, c.well_formed.0)) a.lo q.lo_lt_faces c.set_start-s.result c.set_size-k.result c.set_start-s.ensures c.set_size-k.ensures a.at.offsets 0 (omega arith) (omega arith)
+
+pub places-requires-2 : goal.places-requires-2
+places-requires-2 c = let a = c.args in
+    let q = c.requires in
+    asks a.at a.base.now q.indexed (omega (arith, c.well_formed.0)) a.lo q.lo_lt_faces c.set_start-s.result c.set_size-k.result c.set_start-s.ensures c.set_size-k.ensures (a.at.offsets + 1) 1 (omega arith) refl
+
+pub returns : goal.returns
+returns c = let a = c.args in
+    let q = c.requires in
+    let b = a.base.now in
+    let u = c.set_start-s in
+    let v = c.set_size-k in
+    let t = input a.at b in record { value = v.ensures; from_after = c.places.ensures ∙ ap (sets a.from.now 0) (the_places a.at b q.indexed a.lo q.lo_lt_faces u.result v.result u.ensures v.ensures a.at.offsets 0 (omega arith) (omega arith) ∙ no_more a.at.index (words_of a.at t) (nodes_of a.at t a.lo)); to_after = c.places-2.ensures ∙ ap (sets a.to.now 0) (the_places a.at b q.indexed a.lo q.lo_lt_faces u.result v.result u.ensures v.ensures (a.at.offsets + 1) 1 (omega arith) refl) }
