@@ -41,7 +41,10 @@ module _ {ℓ} {A : Type ℓ} (p : A → Bool) where
 
   -- two members of a list of at most one
   one_only : {x y : A} (k : List A) → Memᴰ x k → Memᴰ y k → length k ≤ 1 → x ≡ y
+  one_only [] q r g = elim q [ ]
   one_only (z ∷ []) (Memᴰ.head q) (Memᴰ.head r) g = q ∙ sym r
+  one_only (z ∷ []) (Memᴰ.head q) (Memᴰ.tail r) g = elim r [ ]
+  one_only (z ∷ []) (Memᴰ.tail q) r g = elim q [ ]
   one_only (z ∷ w ∷ k) q r g = absurd (omega arith)
 
   -- where at most one passes, two members that pass are the same
