@@ -27,6 +27,7 @@ use Rattle.renumber.proofs.Accepting.{renumbered_accepts, renumbered_work}
 
 -- a member has one that is alike
 alike_member : {A B : Type 0} {F : A → B → Type 0} {x : A} {l : List A} {m : List B} → Alike F l m → Memᴰ x l → (y : B) × F x y
+alike_member {A = A} {B = B} {F = F} empty k = elim k [ ]
 alike_member {F = F} (link {b = b} e r) (Memᴰ.head q) = (b, subst (λ z. F z b) (sym q) e)
 alike_member (link e r) (Memᴰ.tail k) = alike_member r k
 
