@@ -1,0 +1,18 @@
+use Prim.Native.Nat.{ℕ, ◌-◌, ◌≤◌}
+use mathlib.Core.List.{List}
+use Rattle.laws.specs.Lists.{each}
+use Rattle.index.specs.declared.Places.{Places}
+use Rattle.index.specs.Faces.{base}
+use Rattle.merge.specs.Runs.{rest}
+use Rattle.triples.specs.Hits.{hits_by}
+use Rattle.triples.proofs.Adds.{Prog}
+use Rattle.triples.proofs.walk_keys.Given as goal
+
+abbrev pub G : Places → Places → List ℕ → ℕ → List ℕ → List ℕ
+G p q w lo l = each (hits_by p q (base p w) lo) l
+
+abbrev pub invariant-loop-i : goal.invariant-loop-i
+invariant-loop-i l = (l.s ≤ l.i) × Prog l.at l.n-2 l.initial.work (G l.at l.by l.initial.work l.lo (rest l.s l.e (base l.at l.initial.work))) (G l.at l.by l.initial.work l.lo (rest l.i l.e (base l.at l.initial.work))) l.n l.work
+
+abbrev pub decreases-loop-i : goal.decreases-loop-i
+decreases-loop-i l = l.e - l.i
