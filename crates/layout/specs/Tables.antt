@@ -83,13 +83,13 @@ pub record Spaced (l : Layout) (n : ℕ) : Type 0 where
   pub second_ends : l.second + (l.at.faces + 1) + l.at.words + (l.at.nodes + (l.total + 1) + 2) + l.at.words ≤ l.at.found
   pub few_words : l.at.words ≤ 2 ^ 20
   pub few_faces : l.at.faces ≤ 2 ^ 18
-  pub few_cells_lem : l.at.cell_count ≤ 2 ^ 18
+  pub few_cells : l.at.cell_count ≤ 2 ^ 18
   pub few_nodes : l.at.nodes ≤ 2 ^ 20
   pub few : l.words ≤ 2 ^ 20
   pub marks_at : l.at.found + l.at.faces ≤ l.marks
   pub others_at : l.marks + l.at.cell_count ≤ l.others
   pub last_at : l.others + l.at.cell_count ≤ l.last
-  pub pairs_at_lem : l.last + l.at.nodes ≤ l.pairs
+  pub pairs_at : l.last + l.at.nodes ≤ l.pairs
   pub spare_at : l.pairs + 2 * l.words ≤ l.spare
   pub ends : l.spare + 2 * l.words ≤ n
 

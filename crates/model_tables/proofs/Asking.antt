@@ -71,7 +71,7 @@ module _ (m : Model) (ok : model_refusal m ≡ 0) where
     scratch : (l.at.found ≤ length w) × (l.pairs ≤ length w)
     scratch =
         let p = s.planned in
-        scratch_in (length rs) (length cs) (node_count m.coords) (length m.words) l.at.found l.marks l.others l.last l.pairs l.spare (length w) p.marks_at p.others_at p.last_at p.pairs_at_lem p.spare_at within
+        scratch_in (length rs) (length cs) (node_count m.coords) (length m.words) l.at.found l.marks l.others l.last l.pairs l.spare (length w) p.marks_at p.others_at p.last_at p.pairs_at p.spare_at within
 
     -- what lies before the indexes
     below_index : l.at.offsets ≤ length w

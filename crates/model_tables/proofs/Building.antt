@@ -185,13 +185,13 @@ module _ (m : Model) (ok : model_refusal m ≡ 0) where
               second_ends = omega arith;
               few_words = omega (arith, few.total);
               few_faces = omega (arith, few.total, few.rings);
-              few_cells_lem = omega (arith, few.kinds, kinds_are_lem);
+              few_cells = omega (arith, few.kinds, kinds_are_lem);
               few_nodes = omega (arith, few.nodes);
               few = omega (arith, few.words);
               marks_at = omega arith;
               others_at = omega arith;
               last_at = omega arith;
-              pairs_at_lem = omega arith;
+              pairs_at = omega arith;
               spare_at = omega arith;
               ends = omega arith;
             }

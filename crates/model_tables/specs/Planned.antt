@@ -41,5 +41,5 @@ pub record Planned (R F C N M K : ℕ) (l : Layout) : Type 0 where
   pub marks_at : l.marks ≡ l.at.found + F
   pub others_at : l.others ≡ l.marks + C
   pub last_at : l.last ≡ l.others + C
-  pub pairs_at_lem : l.pairs ≡ l.last + N
+  pub pairs_at : l.pairs ≡ l.last + N
   pub spare_at : l.spare ≡ l.pairs + 2 * M

@@ -30,7 +30,7 @@ keep-overfull-requires c κs =
     let b = c.before.before.before.before.before.before.before in
     let o = c.before.before.loop in
     let h = c.before.loop-test.true in
-    (b.requires.0, ((h, b.requires.1.0.0, b.requires.1.0.1), (omega (arith, b.requires.1.1.0, o.invariant.3), omega (arith, o.invariant.1, h, b.requires.0.spaced.few_cells_lem, b.requires.1.1.1))))
+    (b.requires.0, ((h, b.requires.1.0.0, b.requires.1.0.1), (omega (arith, b.requires.1.1.0, o.invariant.3), omega (arith, o.invariant.1, h, b.requires.0.spaced.few_cells, b.requires.1.1.1))))
 
 add-c : tie.Need-overflow-add-c invariant-loop decreases-loop
 add-c c = search rules
@@ -60,7 +60,7 @@ returns c =
     let a = b.args in
     let o = c.before.loop in
     let done : o.c ≡ a.l.at.cell_count = omega (arith, o.invariant.2, c.loop-test.false) in
-    (λ tol. pass_end (plain_rules a.coords.now tol) a.room a.n o.k (over_cell a.l (input a.l.at a.work.now)) o.c a.l.at.cell_count a.findings.now o.findings done (o.invariant.0 tol), omega (arith, o.invariant.1, done, b.requires.0.spaced.few_cells_lem))
+    (λ tol. pass_end (plain_rules a.coords.now tol) a.room a.n o.k (over_cell a.l (input a.l.at a.work.now)) o.c a.l.at.cell_count a.findings.now o.findings done (o.invariant.0 tol), omega (arith, o.invariant.1, done, b.requires.0.spaced.few_cells))
 
 pub keep-overs-spec : {M : Type 1} → statement M
 keep-overs-spec =

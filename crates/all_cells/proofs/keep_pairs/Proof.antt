@@ -53,7 +53,7 @@ keep-partly-requires c κs =
         (omega (arith, h), b.requires.1.0.0, subst (Keyed b.args.l.at b.args.by) (sym o.invariant.4.same) b.requires.1.0.1),
         (
           omega (arith, b.requires.1.1.0, o.invariant.3),
-          omega (arith, o.invariant.1, h, b.requires.0.spaced.few_cells_lem, b.requires.1.1.1),
+          omega (arith, o.invariant.1, h, b.requires.0.spaced.few_cells, b.requires.1.1.1),
           omega (arith, most.0, few, b.requires.0.spaced.few_faces),
           omega (arith, most.1, few, b.requires.0.spaced.few_faces),
         ),
@@ -104,7 +104,7 @@ returns c =
     let done : o.c ≡ a.l.at.cell_count = omega (arith, o.invariant.2, c.loop-test.false) in
     let all : first_of a.l (input a.l.at a.work.now) o.c ≡ a.l.at.faces = ap (first_of a.l (input a.l.at a.work.now)) done ∙ b.requires.0.faced.first_last in (
       pass_end R a.room a.n o.k.findings (partly_cell R a.l (input a.l.at a.work.now)) o.c a.l.at.cell_count a.findings.now o.findings done o.invariant.0,
-      ((omega (arith, o.invariant.1, done, b.requires.0.spaced.few_cells_lem), o.invariant.4), subst (λ (i : ℕ). Tallied a.by-nodes i o.k.tally) all o.invariant.6),
+      ((omega (arith, o.invariant.1, done, b.requires.0.spaced.few_cells), o.invariant.4), subst (λ (i : ℕ). Tallied a.by-nodes i o.k.tally) all o.invariant.6),
     )
 
 pub keep-pairs-spec : {M : Type 1} → statement M

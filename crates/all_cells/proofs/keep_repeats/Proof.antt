@@ -108,12 +108,12 @@ keep-repeated-requires c κs =
       o.invariant.4.standing,
       (
         (h, b.requires.1.0.0, omega (arith, long, ends.1, q.words), subst (λ (ws : List ℕ). AllBelow a.l.at.nodes (nodes_in ws)) (sym is) (q.known o.c more)),
-        (omega (arith, b.requires.1.1.0, o.invariant.3), omega (arith, o.invariant.1, h, b.requires.0.spaced.few_cells_lem, b.requires.1.1.1)),
+        (omega (arith, b.requires.1.1.0, o.invariant.3), omega (arith, o.invariant.1, h, b.requires.0.spaced.few_cells, b.requires.1.1.1)),
       ),
     )
 
 add-c : tie.Need-overflow-add-c invariant-loop decreases-loop
-add-c c = omega (arith, c.before.before.before.before.before.before.before.before.before.before.loop-test.true, c.before.before.before.before.before.before.before.before.before.before.before.before.before.before.before.before.before.before.before.requires.0.spaced.few_cells_lem)
+add-c c = omega (arith, c.before.before.before.before.before.before.before.before.before.before.loop-test.true, c.before.before.before.before.before.before.before.before.before.before.before.before.before.before.before.before.before.before.before.requires.0.spaced.few_cells)
 
 loop-less : tie.Need-loop-smaller invariant-loop decreases-loop
 loop-less c = omega (arith, c.before.before.before.before.before.before.before.before.before.before.loop-test.true)
@@ -157,7 +157,7 @@ returns c =
     let a = b.args in
     let o = c.before.loop in
     let done : o.c ≡ a.l.at.cell_count = omega (arith, o.invariant.2, c.loop-test.false) in
-    (λ tol. pass_end (plain_rules a.coords.now tol) a.room a.n o.k (repeat_in a.l (input a.l.at a.work.now) a.kinds.now a.ends.now a.words.now) o.c a.l.at.cell_count a.findings.now o.findings done (o.invariant.0 tol), (omega (arith, o.invariant.1, done, b.requires.0.spaced.few_cells_lem), o.invariant.4))
+    (λ tol. pass_end (plain_rules a.coords.now tol) a.room a.n o.k (repeat_in a.l (input a.l.at a.work.now) a.kinds.now a.ends.now a.words.now) o.c a.l.at.cell_count a.findings.now o.findings done (o.invariant.0 tol), (omega (arith, o.invariant.1, done, b.requires.0.spaced.few_cells), o.invariant.4))
 
 pub keep-repeats-spec : {M : Type 1} → statement M
 keep-repeats-spec =

@@ -54,7 +54,7 @@ find-butterflies-requires : tie.Need-find-butterflies-requires
 find-butterflies-requires c κs =
     let x = c.before.before.before.before in
     let built = x.build-tables.ensures in
-    (built.tabled.faced, (built.tabled.spaced.few_cells_lem, (at_start (at-asked x)).requires.1))
+    (built.tabled.faced, (built.tabled.spaced.few_cells, (at_start (at-asked x)).requires.1))
 
 contains-requires : tie.Need-contains-requires
 contains-requires c κs = search rules

@@ -25,7 +25,7 @@ narrow-requires : tie.Need-narrow-requires
 narrow-requires c κs =
     let b = c.before.before.before.before.before.before in
     let a = b.args in
-    omega (arith, b.requires.1.0.0.cell, b.requires.0.spaced.few_cells_lem)
+    omega (arith, b.requires.1.0.0.cell, b.requires.0.spaced.few_cells)
 
 cell-of-requires : tie.Need-cell-of-requires
 cell-of-requires c κs =
@@ -37,7 +37,7 @@ narrow-requires-2 : tie.Need-narrow-requires-2
 narrow-requires-2 c κs =
     let b = c.before.before.before.before.before.before.before.before in
     let a = b.args in
-    omega (arith, c.cell-of.ensures.1, b.requires.0.spaced.few_cells_lem)
+    omega (arith, c.cell-of.ensures.1, b.requires.0.spaced.few_cells)
 
 narrow-requires-3 : tie.Need-narrow-requires-3
 narrow-requires-3 c κs =

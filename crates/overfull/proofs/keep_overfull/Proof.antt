@@ -25,7 +25,7 @@ add-first-face : tie.Need-overflow-add-first-face invariant-loop decreases-loop
 add-first-face c =
     let b = c.before.before.before in
     let a = b.args in
-    omega (arith, b.requires.1.0.0, b.requires.0.spaced.few_cells_lem)
+    omega (arith, b.requires.1.0.0, b.requires.0.spaced.few_cells)
 
 first-face-requires : tie.Need-first-face-requires invariant-loop decreases-loop
 first-face-requires c κs =

@@ -1,0 +1,40 @@
+-- `partially_shared::noting::note_face` meets its contract.
+use Prim.Native.Nat.{ℕ}
+use mathlib.Core.Bool.{Bool}
+use mathlib.Core.Path.{ap, ◌∙◌, subst}
+use native.Mathlib.Omega.{arith}
+use Rattle.laws.specs.Merging.{region}
+use Rattle.seek.specs.Candidates.{found_in, TalliedMore}
+use Rattle.layout.specs.ByCell.{plain_rules}
+use Rattle.partially_shared.proofs.Searched.{face_ready, searching_on, beside_less, beside_then, sought_beside, sought_there, sought_number, sought_more}
+use Rattle.partially_shared.proofs.noting.note_face.Goals as goal
+
+pub candidates_of-found-requires : goal.candidates_of-found-requires
+candidates_of-found-requires c = record { ready = (face_ready c.args.l c.args.work.now c.args.f c.requires.searching c.requires.f_lt_faces.0, c.requires.f_lt_faces.3); end_le_faces = c.requires.end_le_faces }
+
+pub note_found-range-requires : goal.note_found-range-requires
+note_found-range-requires c = let a = c.args in
+    let y = c.candidates_of-found in
+    let v = y.new.work in
+    let s = c.requires.searching in
+    let q = y.ensures.sought_by.sought in
+    let n = found_in y.result in record {
+      searching = searching_on a.l a.work.now v s (sought_beside a.l a.work.now v a.f n s q);
+      f_lt_faces = (
+        c.requires.f_lt_faces.0,
+        c.requires.f_lt_faces.1,
+        c.requires.f_lt_faces.2,
+        c.count.ensures ∙ sought_number a.l a.work.now v a.f n s q,
+        ap (λ (k : ℕ). region a.l.at-1.found k v) c.count.ensures ∙ sought_there a.l a.work.now v a.f n s q,
+      );
+    }
+
+pub returns : goal.returns
+returns c = let a = c.args in
+    let y = c.candidates_of-found in
+    let v = y.new.work in
+    let z = c.note_found-range in
+    let s = c.requires.searching in
+    let q = y.ensures.sought_by.sought in
+    let n = found_in y.result in
+    let m = sought_beside a.l a.work.now v a.f n s q in record { marked_more = sought_more a.l a.work.now v a.f n s q (plain_rules a.coords.now a.tol) z.new.work a.r.range z.result z.ensures.marked_more; beside = (beside_then a.l.at-1.found a.l a.work.now v _ m (beside_less a.l.at-1.found a.l.marks a.l v _ (omega (arith, s.spaced.marks_at)) z.ensures.beside.0), z.ensures.beside.1); tallied_more = subst (λ (by : Bool). TalliedMore by 1 a.r.tally-1 c.tallied-more.result) y.ensures.sought_by.way c.tallied-more.ensures }

@@ -1,0 +1,21 @@
+-- `repeated_nodes::keep_nodes` meets its contract: the record has the finding's fields and centre.
+use mathlib.Core.Path.{sym, ap₂, ◌∙◌}
+use Rattle.geometry.specs.declared.Point.{Point}
+use Rattle.geometry.specs.Points.{midpoint_of}
+use Rattle.findings.specs.Findings.{repeated}
+use Rattle.findings.specs.Records.{fields_of, centre_in}
+use Rattle.findings.specs.Rules.{rules_with}
+use Rattle.layout.specs.ByCell.{plain_rules}
+use Rattle.repeated_nodes.proofs.keep_nodes.Goals as goal
+
+pub returns : goal.returns
+unfolding fields_of centre_in rules_with
+returns c tol = let second = c in
+    let first = second in
+    let mid = first in
+    let q = mid in
+    let p = q in
+    let a = p.args in
+    c.keep_record.ensures (plain_rules a.coords.now tol) (repeated a.c a.a a.b)
+    (λ i. record { kind = 4; first = sym first.narrow.ensures i; second = sym second.narrow-2.ensures i; a = a.a; b = a.b; count = 2 })
+    (sym (mid.midpoint-middle.ensures ∙ ap₂ (λ (s t : Point). midpoint_of s t) p.point3-first.ensures q.point3-second.ensures))
