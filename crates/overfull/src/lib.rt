@@ -21,7 +21,7 @@ struct Tally {
 }
 
 // Faces g and h have the same key.
-fn same_key_lem(work: &[u32], l: layout::Layout, g: usize, h: usize) -> bool
+fn same_key(work: &[u32], l: layout::Layout, g: usize, h: usize) -> bool
     requires faced { Faced l (input l.at work.now) }
     requires g_lt_faces { (g < l.at.faces) × (h < l.at.faces) }
     ensures { result ≡ same_as l (input l.at work.now) g h }
@@ -90,7 +90,7 @@ fn walk(work: &[u32], l: layout::Layout, g: usize, x: usize, e: usize) -> Tally
     let mut i = x;
     while i < e {
         let h = counting::wide(work[i]);
-        if same_key_lem(work, l, g, h) {
+        if same_key(work, l, g, h) {
             if h < g {
                 return Tally {
                     count: 0,
