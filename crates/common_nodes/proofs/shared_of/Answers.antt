@@ -35,4 +35,7 @@ returns c = let a = c.args in
     let B = nodes_of a.at (input a.at a.base.now) a.g in
     let few = c.requires.indexed.laid.few a.f c.requires.f_lt_faces.0 in
     let most : length (common A B) ≤ 64 = omega (arith, few, common_few A B) in
-    record { count_value = (c.list_common-n.ensures.0, omega (arith, most, c.list_common-n.ensures.0)); centre_value = c.key_centroid.ensures ∙ ap (λ (l : List ℕ). centre_of (points_of a.coords.now l)) (front _ _ (common A B) _ c.list_common-n.ensures.1 c.list_common-n.ensures.0 refl most) }
+    record {
+      count_value = (c.list_common-n.ensures.0, omega (arith, most, c.list_common-n.ensures.0));
+      centre_value = c.key_centroid.ensures ∙ ap (λ (l : List ℕ). centre_of (points_of a.coords.now l)) (front _ _ (common A B) _ c.list_common-n.ensures.1 c.list_common-n.ensures.0 refl most);
+    }

@@ -25,4 +25,9 @@ by_nodes-requires c = let a = c.args in
 pub returns : goal.returns
 returns c = let a = c.args in
     let q = c.requires in
-    let e = c.build_index.ensures in record { value = c.by_nodes.ensures ∙ ap (λ (v : List ℕ). is_by_nodes a.at (input a.at (base a.at v))) e ∙ ap (is_by_nodes a.at) (input_is a.at a.work.now q.laid q.room); work_after = e; ready_all = subst (ReadyAll a.at) (sym e) (ready_first a.at a.work.now q.laid q.room) }
+    let e = c.build_index.ensures in
+    record {
+      value = c.by_nodes.ensures ∙ ap (λ (v : List ℕ). is_by_nodes a.at (input a.at (base a.at v))) e ∙ ap (is_by_nodes a.at) (input_is a.at a.work.now q.laid q.room);
+      work_after = e;
+      ready_all = subst (ReadyAll a.at) (sym e) (ready_first a.at a.work.now q.laid q.room);
+    }

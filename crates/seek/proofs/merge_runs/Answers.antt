@@ -68,6 +68,12 @@ begin p w lo k from to b =
 longer : (p : Places) (w : List ℕ) (lo k g n : ℕ) (from to v : List ℕ) → Ready p lo w → Held p w lo k g n from to v → p.found ≤ length v
 longer p w lo k g n from to v ready held = omega (arith, ready.room, ap length held.work ∙ length-sets w p.found (up_to p (input p w) lo g))
 
+-- on to the lowest face, found in what is there now
+onward : (p : Places) (w : List ℕ) (lo k g n : ℕ) (from to v : List ℕ) → Ready p lo w → Held p w lo k g n from to v → (g' : ℕ) → Lowest k (base p v) from to p.faces g'
+    → (g ≤ g') × Held p w lo k g' n from to v
+onward p w lo k g n from to v ready held g' low =
+    moved_on p w lo k g n from to v ready held g' (subst (λ (x : List ℕ). Lowest k x from to p.faces g') (same_base p w lo k g n from to v held) low)
+
 pub slice_bounds-lowest-end-2 : goal.slice_bounds-lowest-end-2
 slice_bounds-lowest-end-2 c = let a = c.args in sym (length-take-le a.at.found a.work.now (omega (arith, c.requires.ready.room)))
 
@@ -81,61 +87,68 @@ loop-g-init c = let a = c.args in
 pub take_face-n-requires : goal.take_face-n-requires
 take_face-n-requires c = let a = c.args in
     let l = c.loop-g in
-    let ready = c.requires.ready in record { ready = subst (Ready a.at a.lo) (sym l.invariant.work) (ready_same a.at a.lo a.work.now (up_to a.at (input a.at a.work.now) a.lo l.g) ready); g_lt_faces = (c.loop-g-test.true, omega (arith, c.loop-g-test.true, l.invariant.number, up_to-length a.at (input a.at a.work.now) a.lo l.g)); runs = subst (λ (x : List ℕ). Runs a.at x a.lo a.k l.g l.from a.to.now) (sym (same_base a.at a.work.now a.lo a.k l.g l.n l.from a.to.now l.work l.invariant)) l.invariant.runs }
+    let ready = c.requires.ready in
+    record {
+      ready = subst (Ready a.at a.lo) (sym l.invariant.work) (ready_same a.at a.lo a.work.now (up_to a.at (input a.at a.work.now) a.lo l.g) ready);
+      g_lt_faces = (c.loop-g-test.true, omega (arith, c.loop-g-test.true, l.invariant.number, up_to-length a.at (input a.at a.work.now) a.lo l.g));
+      runs = subst (λ (x : List ℕ). Runs a.at x a.lo a.k l.g l.from a.to.now) (sym (same_base a.at a.work.now a.lo a.k l.g l.n l.from a.to.now l.work l.invariant)) l.invariant.runs;
+    }
 
 pub slice_bounds-lowest-end-in-loop-g : goal.slice_bounds-lowest-end-in-loop-g
 slice_bounds-lowest-end-in-loop-g c =
-    let taken : Held c.args.at c.args.work.now c.args.lo c.args.k (c.loop-g.g + 1) c.take_face-n.result c.take_face-n.new.from c.args.to.now c.take_face-n.new.work = let a = c.args in
+    let a = c.args in
     let l = c.loop-g in
     let f = c.take_face-n in
-    took a.at a.work.now a.lo a.k l.g l.n l.from a.to.now l.work c.requires.ready l.invariant c.loop-g-test.true f.result f.new.from f.new.work f.ensures.value f.ensures.work_after f.ensures.runs_2 in
-    let a = c.args in
-    longer a.at a.work.now a.lo a.k (c.loop-g.g + 1) c.take_face-n.result c.take_face-n.new.from a.to.now c.take_face-n.new.work c.requires.ready (taken)
+    let e = f.ensures in
+    let taken =
+    took a.at a.work.now a.lo a.k l.g l.n l.from a.to.now l.work c.requires.ready l.invariant c.loop-g-test.true
+    f.result f.new.from f.new.work e.value e.work_after e.runs_2 in
+    longer a.at a.work.now a.lo a.k (l.g + 1) f.result f.new.from a.to.now f.new.work c.requires.ready taken
 
 pub slice_bounds-lowest-end-in-loop-g-2 : goal.slice_bounds-lowest-end-in-loop-g-2
 slice_bounds-lowest-end-in-loop-g-2 c =
-    let taken : Held c.args.at c.args.work.now c.args.lo c.args.k (c.loop-g.g + 1) c.take_face-n.result c.take_face-n.new.from c.args.to.now c.take_face-n.new.work = let a = c.args in
+    let a = c.args in
     let l = c.loop-g in
     let f = c.take_face-n in
-    took a.at a.work.now a.lo a.k l.g l.n l.from a.to.now l.work c.requires.ready l.invariant c.loop-g-test.true f.result f.new.from f.new.work f.ensures.value f.ensures.work_after f.ensures.runs_2 in
-    let a = c.args in
-    sym (length-take-le a.at.found c.take_face-n.new.work (longer a.at a.work.now a.lo a.k (c.loop-g.g + 1) c.take_face-n.result c.take_face-n.new.from a.to.now c.take_face-n.new.work c.requires.ready (taken)))
+    let e = f.ensures in
+    let taken =
+    took a.at a.work.now a.lo a.k l.g l.n l.from a.to.now l.work c.requires.ready l.invariant c.loop-g-test.true
+    f.result f.new.from f.new.work e.value e.work_after e.runs_2 in
+    sym (length-take-le a.at.found f.new.work (longer a.at a.work.now a.lo a.k (l.g + 1) f.result f.new.from a.to.now f.new.work c.requires.ready taken))
 
 pub lowest-g-requires-in-loop-g : goal.lowest-g-requires-in-loop-g
 lowest-g-requires-in-loop-g c =
-    let taken : Held c.args.at c.args.work.now c.args.lo c.args.k (c.loop-g.g + 1) c.take_face-n.result c.take_face-n.new.from c.args.to.now c.take_face-n.new.work = let a = c.args in
+    let a = c.args in
     let l = c.loop-g in
     let f = c.take_face-n in
-    took a.at a.work.now a.lo a.k l.g l.n l.from a.to.now l.work c.requires.ready l.invariant c.loop-g-test.true f.result f.new.from f.new.work f.ensures.value f.ensures.work_after f.ensures.runs_2 in
-    let a = c.args in
-    let h = taken in
-    subst (Ends a.k a.to.now) (sym (same_base a.at a.work.now a.lo a.k (c.loop-g.g + 1) c.take_face-n.result c.take_face-n.new.from a.to.now c.take_face-n.new.work h)) h.runs.ends
+    let e = f.ensures in
+    let taken =
+    took a.at a.work.now a.lo a.k l.g l.n l.from a.to.now l.work c.requires.ready l.invariant c.loop-g-test.true
+    f.result f.new.from f.new.work e.value e.work_after e.runs_2 in
+    subst (Ends a.k a.to.now) (sym (same_base a.at a.work.now a.lo a.k (l.g + 1) f.result f.new.from a.to.now f.new.work taken)) taken.runs.ends
 
 pub loop-g-smaller : goal.loop-g-smaller
 loop-g-smaller c =
-    let taken : Held c.args.at c.args.work.now c.args.lo c.args.k (c.loop-g.g + 1) c.take_face-n.result c.take_face-n.new.from c.args.to.now c.take_face-n.new.work = let a = c.args in
+    let a = c.args in
     let l = c.loop-g in
     let f = c.take_face-n in
-    took a.at a.work.now a.lo a.k l.g l.n l.from a.to.now l.work c.requires.ready l.invariant c.loop-g-test.true f.result f.new.from f.new.work f.ensures.value f.ensures.work_after f.ensures.runs_2 in
-    let onward : (c.loop-g.g + 1 ≤ c.lowest-g-in-loop-g.result) × Held c.args.at c.args.work.now c.args.lo c.args.k c.lowest-g-in-loop-g.result c.take_face-n.result c.take_face-n.new.from c.args.to.now c.take_face-n.new.work = let a = c.args in
-    let f = c.take_face-n in
-    let h = taken in
-    moved_on a.at a.work.now a.lo a.k (c.loop-g.g + 1) f.result f.new.from a.to.now f.new.work c.requires.ready h c.lowest-g-in-loop-g.result
-    (subst (λ (x : List ℕ). Lowest a.k x f.new.from a.to.now a.at.faces c.lowest-g-in-loop-g.result) (same_base a.at a.work.now a.lo a.k (c.loop-g.g + 1) f.result f.new.from a.to.now f.new.work h) c.lowest-g-in-loop-g.ensures) in
-    let o = onward in omega (arith, o.0, o.1.top, c.loop-g-test.true)
+    let e = f.ensures in
+    let taken =
+    took a.at a.work.now a.lo a.k l.g l.n l.from a.to.now l.work c.requires.ready l.invariant c.loop-g-test.true
+    f.result f.new.from f.new.work e.value e.work_after e.runs_2 in
+    let o = onward a.at a.work.now a.lo a.k (l.g + 1) f.result f.new.from a.to.now f.new.work c.requires.ready taken c.lowest-g-in-loop-g.result c.lowest-g-in-loop-g.ensures in
+    omega (arith, o.0, o.1.top, c.loop-g-test.true)
 
 pub loop-g-preserved : goal.loop-g-preserved
 loop-g-preserved c =
-    let taken : Held c.args.at c.args.work.now c.args.lo c.args.k (c.loop-g.g + 1) c.take_face-n.result c.take_face-n.new.from c.args.to.now c.take_face-n.new.work = let a = c.args in
+    let a = c.args in
     let l = c.loop-g in
     let f = c.take_face-n in
-    took a.at a.work.now a.lo a.k l.g l.n l.from a.to.now l.work c.requires.ready l.invariant c.loop-g-test.true f.result f.new.from f.new.work f.ensures.value f.ensures.work_after f.ensures.runs_2 in
-    let onward : (c.loop-g.g + 1 ≤ c.lowest-g-in-loop-g.result) × Held c.args.at c.args.work.now c.args.lo c.args.k c.lowest-g-in-loop-g.result c.take_face-n.result c.take_face-n.new.from c.args.to.now c.take_face-n.new.work = let a = c.args in
-    let f = c.take_face-n in
-    let h = taken in
-    moved_on a.at a.work.now a.lo a.k (c.loop-g.g + 1) f.result f.new.from a.to.now f.new.work c.requires.ready h c.lowest-g-in-loop-g.result
-    (subst (λ (x : List ℕ). Lowest a.k x f.new.from a.to.now a.at.faces c.lowest-g-in-loop-g.result) (same_base a.at a.work.now a.lo a.k (c.loop-g.g + 1) f.result f.new.from a.to.now f.new.work h) c.lowest-g-in-loop-g.ensures) in
-    (onward).1
+    let e = f.ensures in
+    let taken =
+    took a.at a.work.now a.lo a.k l.g l.n l.from a.to.now l.work c.requires.ready l.invariant c.loop-g-test.true
+    f.result f.new.from f.new.work e.value e.work_after e.runs_2 in
+    (onward a.at a.work.now a.lo a.k (l.g + 1) f.result f.new.from a.to.now f.new.work c.requires.ready taken c.lowest-g-in-loop-g.result c.lowest-g-in-loop-g.ensures).1
 
 pub shape_of-work : goal.shape_of-work
 shape_of-work c = let a = c.args in let l = c.loop-g in ap length l.invariant.work ∙ length-sets a.work.now a.at.found (up_to a.at (input a.at a.work.now) a.lo l.g)

@@ -33,4 +33,9 @@ returns c = let a = c.args in
     let b = a.base.now in
     let u = c.set_start-s in
     let v = c.set_size-k in
-    let t = input a.at b in record { value = v.ensures; from_after = c.places.ensures ∙ ap (sets a.from.now 0) (the_places a.at b q.indexed a.lo q.lo_lt_faces u.result v.result u.ensures v.ensures a.at.offsets 0 (omega arith) (omega arith) ∙ no_more a.at.index (words_of a.at t) (nodes_of a.at t a.lo)); to_after = c.places-2.ensures ∙ ap (sets a.to.now 0) (the_places a.at b q.indexed a.lo q.lo_lt_faces u.result v.result u.ensures v.ensures (a.at.offsets + 1) 1 (omega arith) refl) }
+    let t = input a.at b in
+    record {
+      value = v.ensures;
+      from_after = c.places.ensures ∙ ap (sets a.from.now 0) (the_places a.at b q.indexed a.lo q.lo_lt_faces u.result v.result u.ensures v.ensures a.at.offsets 0 (omega arith) (omega arith) ∙ no_more a.at.index (words_of a.at t) (nodes_of a.at t a.lo));
+      to_after = c.places-2.ensures ∙ ap (sets a.to.now 0) (the_places a.at b q.indexed a.lo q.lo_lt_faces u.result v.result u.ensures v.ensures (a.at.offsets + 1) 1 (omega arith) refl);
+    }

@@ -17,7 +17,10 @@ pub slice_bounds-bow_at-end-2 : goal.slice_bounds-bow_at-end-2
 slice_bounds-bow_at-end-2 c = let a = c.args in sym (length-take-le a.at.found a.work.now (omega (arith, c.requires.ready.room)))
 
 pub returns-then-bow_at : goal.returns-then-bow_at
-returns-then-bow_at c = record { way = refl; sought = none_sought c.args.at c.args.lo c.args.work.now c.requires.ready (sym c.bow_at.ensures ∙ c.if-bow_at.true) }
+returns-then-bow_at c = record {
+  way = refl;
+  sought = none_sought c.args.at c.args.lo c.args.work.now c.requires.ready (sym c.bow_at.ensures ∙ c.if-bow_at.true);
+}
 
 pub slice_bounds-open_runs-end-2 : goal.slice_bounds-open_runs-end-2
 slice_bounds-open_runs-end-2 c = let a = c.args in sym (length-take-le a.at.found a.work.now (omega (arith, c.requires.ready.room)))
@@ -41,7 +44,10 @@ skip_runs-requires c =
     (opened p b a.lo ready.indexed ready.face zs zs refl refl))) in
     let a = c.args in
     let r = runs_open in
-    record { ends = r.ends; from_len = (r.wide, all_rising a.at (base a.at a.work.now) a.lo c.open_runs-k.result c.open_runs-k.new.from c.open_runs-k.new.to 0 r) }
+    record {
+      ends = r.ends;
+      from_len = (r.wide, all_rising a.at (base a.at a.work.now) a.lo c.open_runs-k.result c.open_runs-k.new.from c.open_runs-k.new.to 0 r);
+    }
 
 pub merge_runs-n-requires : goal.merge_runs-n-requires
 merge_runs-n-requires c =

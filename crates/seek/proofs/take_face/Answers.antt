@@ -22,10 +22,20 @@ slice_bounds-is_candidate-end-2 c = let a = c.args in sym (length-take-le a.at.f
 
 pub is_candidate-wanted-requires : goal.is_candidate-wanted-requires
 is_candidate-wanted-requires c = let a = c.args in
-    let q = c.requires in record { indexed = q.ready.indexed; lo_lt_faces = (q.ready.face, q.g_lt_faces.0); c_value = c.pass-c.ensures.value ∙ counted a.at (base a.at a.work.now) a.lo a.k a.g a.from.now a.to.now q.runs q.g_lt_faces.0 }
+    let q = c.requires in
+    record {
+      indexed = q.ready.indexed;
+      lo_lt_faces = (q.ready.face, q.g_lt_faces.0);
+      c_value = c.pass-c.ensures.value ∙ counted a.at (base a.at a.work.now) a.lo a.k a.g a.from.now a.to.now q.runs q.g_lt_faces.0;
+    }
 
 pub returns : goal.returns
 returns c = let a = c.args in
     let q = c.requires in
     let w = a.work.now in
-    let e : c.is_candidate-wanted.result ≡ shares a.at (input a.at w) a.lo a.g = c.is_candidate-wanted.ensures ∙ ap (λ (t : List ℕ). shares a.at t a.lo a.g) (input_base a.at w q.ready.below) in record { value = c.note.ensures.value ∙ ap (λ (b : Bool). a.n + length (only_if b (a.g ∷ []))) e; work_after = c.note.ensures.work_after ∙ ap (λ (b : Bool). sets w (a.at.found + a.n) (only_if b (a.g ∷ []))) e; runs_2 = subst (λ (l : List ℕ). Runs a.at (base a.at w) a.lo a.k (a.g + 1) l a.to.now) (sym c.pass-c.ensures.from_after) (passed a.at (base a.at w) a.lo a.k a.g a.from.now a.to.now q.runs) }
+    let e : c.is_candidate-wanted.result ≡ shares a.at (input a.at w) a.lo a.g = c.is_candidate-wanted.ensures ∙ ap (λ (t : List ℕ). shares a.at t a.lo a.g) (input_base a.at w q.ready.below) in
+    record {
+      value = c.note.ensures.value ∙ ap (λ (b : Bool). a.n + length (only_if b (a.g ∷ []))) e;
+      work_after = c.note.ensures.work_after ∙ ap (λ (b : Bool). sets w (a.at.found + a.n) (only_if b (a.g ∷ []))) e;
+      runs_2 = subst (λ (l : List ℕ). Runs a.at (base a.at w) a.lo a.k (a.g + 1) l a.to.now) (sym c.pass-c.ensures.from_after) (passed a.at (base a.at w) a.lo a.k a.g a.from.now a.to.now q.runs);
+    }

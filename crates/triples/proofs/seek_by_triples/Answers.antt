@@ -46,7 +46,10 @@ pub set_size-k-requires : goal.set_size-k-requires
 set_size-k-requires c = record { indexed = c.requires.0.indexed; g_lt_faces = c.requires.0.face }
 
 pub returns-then-k-lt3 : goal.returns-then-k-lt3
-returns-then-k-lt3 c = record { way = refl; sought = few_sought c.args.at c.args.lo c.args.work.now c.requires.0 (omega (arith, c.if-k-lt3.true, c.set_size-k.ensures)) }
+returns-then-k-lt3 c = record {
+  way = refl;
+  sought = few_sought c.args.at c.args.lo c.args.work.now c.requires.0 (omega (arith, c.if-k-lt3.true, c.set_size-k.ensures));
+}
 
 pub overflow_add-s : goal.overflow_add-s
 overflow_add-s c =

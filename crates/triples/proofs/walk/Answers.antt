@@ -1,15 +1,17 @@
 -- `triples::walk` meets its contract. A loop of Turns: the pieces are the hits among the faces.
-use Prim.Native.Nat.{ℕ, ◌<◌}
-use mathlib.Core.Path.{refl, ap₂, ◌∙◌, subst}
+use Prim.Native.Nat.{ℕ, ◌+◌, ◌≤◌, ◌<◌}
+use mathlib.Core.Path.{◌≡◌, refl, ap₂, ◌∙◌, subst}
 use mathlib.Core.List.{List, [], ◌∷◌}
 use native.Mathlib.Omega.{arith}
+use lib.ListN.{length, get_or}
 use lib.Seq.{length-take-le}
 use Rattle.laws.specs.Lists.{only_if}
 use Rattle.index.specs.declared.Places.{Places}
 use Rattle.index.specs.Faces.{input, base}
 use Rattle.merge.specs.Runs.{rest}
 use Rattle.seek.specs.Candidates.{shares}
-use Rattle.triples.specs.Hits.{Added}
+use Rattle.triples.specs.Hits.{Open, Added}
+use Rattle.triples.proofs.Adds.{Faces, Prog}
 use Rattle.triples.proofs.Turns.{held_start, held_open, held_base, held-length, held_read, held_next, held_end, of_rest, faces_kept}
 use Rattle.triples.proofs.walk.Invariants.{G}
 use Rattle.triples.proofs.walk.Goals as goal
@@ -17,73 +19,95 @@ use Rattle.triples.proofs.walk.Goals as goal
 abbrev F : Places → List ℕ → ℕ → ℕ → List ℕ → List ℕ
 F p w lo g l = only_if (shares p (input p (base p w)) lo g) (g ∷ [])
 
+module _ (p : Places) (lo n : ℕ) (w : List ℕ) (op : Open p lo n w) (s e : ℕ) (asked : (e ≤ p.found) × ((i : ℕ) → s ≤ i → i < e → get_or (base p w) i 0 < p.faces)) where
+  -- all that is added are faces
+  all : Faces p (G p w lo (rest s e (base p w)))
+  all =
+      faces_kept p (shares p (input p (base p w)) lo) (rest s e (base p w))
+      (of_rest (λ g. g < p.faces) s e (base p w) (omega (arith, asked.0, length-take-le p.found w (omega (arith, op.ready.room)))) asked.1)
+
+  -- at the start all is to do
+  start : Prog p n w (G p w lo (rest s e (base p w))) (G p w lo (rest s e (base p w))) n w
+  start = held_start p lo n w op s e asked.0 (G p w lo) (F p w lo) refl (λ x l. refl) all
+
+  module _ (i r : ℕ) (v : List ℕ) (h : Prog p n w (G p w lo (rest s e (base p w))) (G p w lo (rest i e (base p w))) r v) where
+    -- the length stays
+    long : length v ≡ length w
+    long = held-length p lo n w op s e asked.0 (G p w lo) (F p w lo) refl (λ x l. refl) all i r v h
+
+    -- more can be added
+    more : Open p lo r v
+    more = held_open p lo n w op s e asked.0 (G p w lo) (F p w lo) refl (λ x l. refl) all i r v h
+
+    -- what is read stays
+    same : base p v ≡ base p w
+    same = held_base p lo n w op s e asked.0 (G p w lo) (F p w lo) refl (λ x l. refl) all i r v h
+
+    -- word i is as at the start
+    read : i < e → get_or v i 0 ≡ get_or (base p w) i 0
+    read = held_read p lo n w op s e asked.0 (G p w lo) (F p w lo) refl (λ x l. refl) all i r v h
+
+    -- a face is done
+    next : i < e → (g r' : ℕ) (u : List ℕ) → g ≡ get_or (base p w) i 0 → Added p (only_if (shares p (input p (base p v)) lo g) (g ∷ [])) r v r' u
+        → Prog p n w (G p w lo (rest s e (base p w))) (G p w lo (rest (i + 1) e (base p w))) r' u
+    next k g r' u is a =
+        held_next p lo n w op s e asked.0 (G p w lo) (F p w lo) refl (λ x l. refl) all i r v h k r' u
+        (subst (λ (l : List ℕ). Added p l r v r' u) (ap₂ (λ (b : List ℕ) (x : ℕ). only_if (shares p (input p b) lo x) (x ∷ [])) same is) a)
+
+    -- all are done
+    done : e ≤ i → Added p (G p w lo (rest s e (base p w))) n w r v
+    done = held_end p lo n w op s e asked.0 (G p w lo) (F p w lo) refl (λ x l. refl) all i r v h
+
 pub loop-i-init : goal.loop-i-init
-loop-i-init c = let a = c.args in
-    let op = c.requires.fact in
-    let within = c.requires.e_le_found.0 in
-    let low = c.requires.e_le_found.1 in
-    let w = a.work.now in
-    (omega arith, held_start a.at a.lo a.n w op a.x a.e within (G a.at w a.lo) (F a.at w a.lo) refl (λ x l. refl) (faces_kept a.at (shares a.at (input a.at (base a.at w)) a.lo) (rest a.x a.e (base a.at w)) (of_rest (λ g. g < a.at.faces) a.x a.e (base a.at w) (omega (arith, within, length-take-le a.at.found w (omega (arith, op.ready.room)))) (low))))
+loop-i-init c =
+    let a = c.args in
+    (omega arith, start a.at a.lo a.n a.work.now c.requires.fact a.x a.e c.requires.e_le_found)
 
 pub offset_bounds-work-i : goal.offset_bounds-work-i
-offset_bounds-work-i c = let a = c.args in
-    let op = c.requires.fact in
-    let within = c.requires.e_le_found.0 in
-    let low = c.requires.e_le_found.1 in
-    let w = a.work.now in
-    omega (arith, within, op.ready.room, c.well_formed.0, c.loop-i-test.true)
+offset_bounds-work-i c = omega (arith, c.requires.e_le_found.0, c.requires.fact.ready.room, c.well_formed.0, c.loop-i-test.true)
 
 pub bounds-work-i : goal.bounds-work-i
-bounds-work-i c = let a = c.args in
-    let op = c.requires.fact in
-    let within = c.requires.e_le_found.0 in
-    let low = c.requires.e_le_found.1 in
-    let w = a.work.now in
+bounds-work-i c =
+    let a = c.args in
     let l = c.loop-i in
-    omega (arith, within, op.ready.room, c.loop-i-test.true, held-length a.at a.lo a.n w op a.x a.e within (G a.at w a.lo) (F a.at w a.lo) refl (λ x l. refl) (faces_kept a.at (shares a.at (input a.at (base a.at w)) a.lo) (rest a.x a.e (base a.at w)) (of_rest (λ g. g < a.at.faces) a.x a.e (base a.at w) (omega (arith, within, length-take-le a.at.found w (omega (arith, op.ready.room)))) (low))) l.i l.n l.work l.invariant.1)
+    omega (
+      arith,
+      c.requires.e_le_found.0,
+      c.requires.fact.ready.room,
+      c.loop-i-test.true,
+      long a.at a.lo a.n a.work.now c.requires.fact a.x a.e c.requires.e_le_found l.i l.n l.work l.invariant.1,
+    )
 
 pub consider-n-requires : goal.consider-n-requires
-consider-n-requires c = let a = c.args in
-    let op = c.requires.fact in
-    let within = c.requires.e_le_found.0 in
-    let low = c.requires.e_le_found.1 in
-    let w = a.work.now in
+consider-n-requires c =
+    let a = c.args in
     let l = c.loop-i in
     let k = c.loop-i-test.true in
-    let op' = held_open a.at a.lo a.n w op a.x a.e within (G a.at w a.lo) (F a.at w a.lo) refl (λ x l. refl) (faces_kept a.at (shares a.at (input a.at (base a.at w)) a.lo) (rest a.x a.e (base a.at w)) (of_rest (λ g. g < a.at.faces) a.x a.e (base a.at w) (omega (arith, within, length-take-le a.at.found w (omega (arith, op.ready.room)))) (low))) l.i l.n l.work l.invariant.1 in
-    let read = held_read a.at a.lo a.n w op a.x a.e within (G a.at w a.lo) (F a.at w a.lo) refl (λ x l. refl) (faces_kept a.at (shares a.at (input a.at (base a.at w)) a.lo) (rest a.x a.e (base a.at w)) (of_rest (λ g. g < a.at.faces) a.x a.e (base a.at w) (omega (arith, within, length-take-le a.at.found w (omega (arith, op.ready.room)))) (low))) l.i l.n l.work l.invariant.1 k in
-    record { fact = op'; g_lt_faces = omega (arith, c.wide-g.ensures, read, low l.i l.invariant.0 k) }
+    let is = read a.at a.lo a.n a.work.now c.requires.fact a.x a.e c.requires.e_le_found l.i l.n l.work l.invariant.1 k in
+    record {
+      fact = more a.at a.lo a.n a.work.now c.requires.fact a.x a.e c.requires.e_le_found l.i l.n l.work l.invariant.1;
+      g_lt_faces = omega (arith, c.wide-g.ensures, is, c.requires.e_le_found.1 l.i l.invariant.0 k);
+    }
 
 pub loop-i-preserved : goal.loop-i-preserved
-loop-i-preserved c = let a = c.args in
-    let op = c.requires.fact in
-    let within = c.requires.e_le_found.0 in
-    let low = c.requires.e_le_found.1 in
-    let w = a.work.now in
+loop-i-preserved c =
+    let a = c.args in
     let l = c.loop-i in
     let k = c.loop-i-test.true in
-    let b = held_base a.at a.lo a.n w op a.x a.e within (G a.at w a.lo) (F a.at w a.lo) refl (λ x l. refl) (faces_kept a.at (shares a.at (input a.at (base a.at w)) a.lo) (rest a.x a.e (base a.at w)) (of_rest (λ g. g < a.at.faces) a.x a.e (base a.at w) (omega (arith, within, length-take-le a.at.found w (omega (arith, op.ready.room)))) (low))) l.i l.n l.work l.invariant.1 in
-    let read = held_read a.at a.lo a.n w op a.x a.e within (G a.at w a.lo) (F a.at w a.lo) refl (λ x l. refl) (faces_kept a.at (shares a.at (input a.at (base a.at w)) a.lo) (rest a.x a.e (base a.at w)) (of_rest (λ g. g < a.at.faces) a.x a.e (base a.at w) (omega (arith, within, length-take-le a.at.found w (omega (arith, op.ready.room)))) (low))) l.i l.n l.work l.invariant.1 k in
-    let f = c.consider-n in (
+    let f = c.consider-n in
+    let is = read a.at a.lo a.n a.work.now c.requires.fact a.x a.e c.requires.e_le_found l.i l.n l.work l.invariant.1 k in (
       omega arith,
-      held_next a.at a.lo a.n w op a.x a.e within (G a.at w a.lo) (F a.at w a.lo) refl (λ x l. refl) (faces_kept a.at (shares a.at (input a.at (base a.at w)) a.lo) (rest a.x a.e (base a.at w)) (of_rest (λ g. g < a.at.faces) a.x a.e (base a.at w) (omega (arith, within, length-take-le a.at.found w (omega (arith, op.ready.room)))) (low))) l.i l.n l.work l.invariant.1 k f.result f.new.work
-          (subst (λ (x : List ℕ). Added a.at x l.n l.work f.result f.new.work) (ap₂ (λ (x : List ℕ) (v : ℕ). only_if (shares a.at (input a.at x) a.lo v) (v ∷ [])) b (c.wide-g.ensures ∙ read)) f.ensures),
+      next a.at a.lo a.n a.work.now c.requires.fact a.x a.e c.requires.e_le_found l.i l.n l.work l.invariant.1 k _ f.result f.new.work (c.wide-g.ensures ∙ is) f.ensures,
     )
 
 pub shape_of-work : goal.shape_of-work
-shape_of-work c = let a = c.args in
-    let op = c.requires.fact in
-    let within = c.requires.e_le_found.0 in
-    let low = c.requires.e_le_found.1 in
-    let w = a.work.now in
+shape_of-work c =
+    let a = c.args in
     let l = c.loop-i in
-    held-length a.at a.lo a.n w op a.x a.e within (G a.at w a.lo) (F a.at w a.lo) refl (λ x l. refl) (faces_kept a.at (shares a.at (input a.at (base a.at w)) a.lo) (rest a.x a.e (base a.at w)) (of_rest (λ g. g < a.at.faces) a.x a.e (base a.at w) (omega (arith, within, length-take-le a.at.found w (omega (arith, op.ready.room)))) (low))) l.i l.n l.work l.invariant.1
+    long a.at a.lo a.n a.work.now c.requires.fact a.x a.e c.requires.e_le_found l.i l.n l.work l.invariant.1
 
 pub returns : goal.returns
-returns c = let a = c.args in
-    let op = c.requires.fact in
-    let within = c.requires.e_le_found.0 in
-    let low = c.requires.e_le_found.1 in
-    let w = a.work.now in
+returns c =
+    let a = c.args in
     let l = c.loop-i in
-    held_end a.at a.lo a.n w op a.x a.e within (G a.at w a.lo) (F a.at w a.lo) refl (λ x l. refl) (faces_kept a.at (shares a.at (input a.at (base a.at w)) a.lo) (rest a.x a.e (base a.at w)) (of_rest (λ g. g < a.at.faces) a.x a.e (base a.at w) (omega (arith, within, length-take-le a.at.found w (omega (arith, op.ready.room)))) (low))) l.i l.n l.work l.invariant.1 c.loop-i-test.false
+    done a.at a.lo a.n a.work.now c.requires.fact a.x a.e c.requires.e_le_found l.i l.n l.work l.invariant.1 c.loop-i-test.false

@@ -52,7 +52,10 @@ walk-requires c =
     let e = a.by.index + c.wide-2.result in
     let is_x = ap (λ (k : ℕ). a.by.index + k) c.wide.ensures in
     let is-e = ap (λ (k : ℕ). a.by.index + k) c.wide-2.ensures in
-    record { fact = c.requires.fact; e_le_found = ((within a.at a.by a.work.now room c.requires.beside.0 a.v c.requires.beside.1 x e is_x is-e).1, all_faces a.at a.by a.work.now room c.requires.beside.0 a.v c.requires.beside.1 x e is_x is-e) }
+    record {
+      fact = c.requires.fact;
+      e_le_found = ((within a.at a.by a.work.now room c.requires.beside.0 a.v c.requires.beside.1 x e is_x is-e).1, all_faces a.at a.by a.work.now room c.requires.beside.0 a.v c.requires.beside.1 x e is_x is-e);
+    }
 
 pub returns : goal.returns
 returns c =

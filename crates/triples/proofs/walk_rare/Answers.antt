@@ -32,7 +32,10 @@ two_longest-t-requires c =
 pub walk_keys-a-requires : goal.walk_keys-a-requires
 walk_keys-a-requires c = let a = c.args in
     let t = c.two_longest-t in
-    record { fact = c.requires.fact; beside = (c.requires.beside.0, omega (arith, t.ensures, c.requires.beside.2), known_part a.by (base a.at a.work.now) (base a.at a.work.now) a.s a.e a.s t.result.i refl (omega arith) (omega (arith, t.ensures)) c.requires.beside.3) }
+    record {
+      fact = c.requires.fact;
+      beside = (c.requires.beside.0, omega (arith, t.ensures, c.requires.beside.2), known_part a.by (base a.at a.work.now) (base a.at a.work.now) a.s a.e a.s t.result.i refl (omega arith) (omega (arith, t.ensures)) c.requires.beside.3);
+    }
 
 pub walk_keys-b-requires : goal.walk_keys-b-requires
 walk_keys-b-requires c = let a = c.args in
@@ -49,7 +52,10 @@ walk_keys-b-requires c = let a = c.args in
     let open-v = step_open p q a.lo a.n w op bs a.s i k.result v k.ensures in
     let same-v = step_base p q a.lo a.n w op bs a.s i k.result v k.ensures in
     let beside-v = step_beside p q a.lo a.n w op bs a.s i k.result v k.ensures q bs in
-    record { fact = open-v; beside = (beside-v, omega (arith, t.ensures, c.requires.beside.2), known_part q (base p v) (base p w) a.s a.e (i + 1) j same-v (omega (arith, t.ensures)) (omega (arith, t.ensures)) c.requires.beside.3) }
+    record {
+      fact = open-v;
+      beside = (beside-v, omega (arith, t.ensures, c.requires.beside.2), known_part q (base p v) (base p w) a.s a.e (i + 1) j same-v (omega (arith, t.ensures)) (omega (arith, t.ensures)) c.requires.beside.3);
+    }
 
 pub walk_keys-requires : goal.walk_keys-requires
 walk_keys-requires c = let a = c.args in
@@ -71,7 +77,10 @@ walk_keys-requires c = let a = c.args in
     let open-u = step_open p q a.lo k.result v open-v beside-v (i + 1) j m.result u m.ensures in
     let same-u = step_base p q a.lo k.result v open-v beside-v (i + 1) j m.result u m.ensures in
     let beside-u = step_beside p q a.lo k.result v open-v beside-v (i + 1) j m.result u m.ensures q beside-v in
-    record { fact = open-u; beside = (beside-u, c.requires.beside.2, known_part q (base p u) (base p w) a.s a.e (j + 1) a.e (same-u ∙ same-v) (omega (arith, t.ensures)) (omega arith) c.requires.beside.3) }
+    record {
+      fact = open-u;
+      beside = (beside-u, c.requires.beside.2, known_part q (base p u) (base p w) a.s a.e (j + 1) a.e (same-u ∙ same-v) (omega (arith, t.ensures)) (omega arith) c.requires.beside.3);
+    }
 
 pub returns : goal.returns
 returns c = let a = c.args in
