@@ -37,4 +37,4 @@ returns c = let a = c.args in
     let ys = region a.a a.n a.work.now in
     let long : length ys ≡ a.n = simp (length-take, length-drop) (omega arith) in
     let h : length ys ≤ c.loop-i.i = omega arith in
-    rw (take_all c.loop-i.i ys) at c.loop-i.invariant.1
+    c.loop-i.invariant.1 ∙ ap (sets a.work.now 0) (take_all c.loop-i.i ys h)
