@@ -12,7 +12,7 @@ use Rattle.partially_shared.proofs.keep_pair.Goals as goal
 
 pub slice_bounds-shared_of-end : goal.slice_bounds-shared_of-end
 slice_bounds-shared_of-end c = let p = c.requires.searching.spaced in
-    sym (length-take-le c.args.l.at-1.found c.args.work.now (omega (arith, p.marks_at, p.others_at, p.last_at, p.pairs_at, p.spare_at, p.ends)))
+    sym (length-take-le c.args.l.at.found c.args.work.now (omega (arith, p.marks_at, p.others_at, p.last_at, p.pairs_at, p.spare_at, p.ends)))
 
 pub shared_of-s-requires : goal.shared_of-s-requires
 shared_of-s-requires c = let q = c.requires.c_bound in
@@ -44,7 +44,7 @@ keep_record-requires c = c.requires.room_in_bounds
 pub returns : goal.returns
 returns c tol = let a = c.args in
     let w = a.work.now in
-    let t = input a.l.at-1 w in
+    let t = input a.l.at w in
     let m = get_or w (a.l.marks + a.b) 0 in
     let o = get_or w (a.l.others + a.b) 0 in
     let s = c.shared_of-s in

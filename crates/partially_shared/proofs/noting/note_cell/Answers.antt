@@ -27,7 +27,7 @@ loop-f-init c = let a = c.args in
       omega arith,
       omega arith,
       omega (arith, c.first_face-f.ensures.0, c.first_face-end.ensures.0, c.requires.standing.faced.first_rising a.c c.requires.c_bound.0),
-      subst (λ (n : ℕ). TalliedMore a.by-nodes n a.tally a.tally) none (tallied_none a.by-nodes a.tally),
+      subst (λ (n : ℕ). TalliedMore a.by_nodes n a.tally a.tally) none (tallied_none a.by_nodes a.tally),
     )
 
 pub note_face-s-requires : goal.note_face-s-requires
@@ -35,13 +35,13 @@ note_face-s-requires c = let a = c.args in
     let o = c.loop-f in
     let y = c.first_face-end in
     let low = c.loop-f-test.true in
-    let most = tallied_most a.by-nodes _ a.tally o.s.tally o.invariant.4 in record {
+    let most = tallied_most a.by_nodes _ a.tally o.s.tally o.invariant.4 in record {
       searching = o.invariant.0.search;
-      f_lt_faces = (omega (arith, low, y.ensures.1), c.requires.c_bound.1, o.invariant.0.high, subst (Keyed a.l.at-1 a.by) (sym o.invariant.0.beside.before) c.requires.c_bound.2);
+      f_lt_faces = (omega (arith, low, y.ensures.1), c.requires.c_bound.1, o.invariant.0.high, subst (Keyed a.l.at a.by) (sym o.invariant.0.beside.before) c.requires.c_bound.2);
       end_le_faces = (
         y.ensures.1,
-        subst (λ (t : List ℕ). Hidden a.l.at-1 t o.f y.result) (sym (input_on a.l a.work.now o.work (searches a.l a.work.now c.requires.standing) o.invariant.0.beside))
-            (hidden_cell a.l (input a.l.at-1 a.work.now) a.c o.f y.result c.requires.standing.faced c.requires.c_bound.0 (omega (arith, c.first_face-f.ensures.0, o.invariant.2)) low y.ensures.0),
+        subst (λ (t : List ℕ). Hidden a.l.at t o.f y.result) (sym (input_on a.l a.work.now o.work (searches a.l a.work.now c.requires.standing) o.invariant.0.beside))
+            (hidden_cell a.l (input a.l.at a.work.now) a.c o.f y.result c.requires.standing.faced c.requires.c_bound.0 (omega (arith, c.first_face-f.ensures.0, o.invariant.2)) low y.ensures.0),
       );
       nodes_bound = (omega (arith, most.0, low, y.ensures.1, c.requires.nodes_bound.0, c.requires.standing.spaced.few_faces), omega (arith, most.1, low, y.ensures.1, c.requires.nodes_bound.1, c.requires.standing.spaced.few_faces));
     }
@@ -55,12 +55,12 @@ loop-f-preserved c = let a = c.args in
       next.beside.long,
       omega (arith, o.invariant.2),
       omega (arith, c.loop-f-test.true),
-      tallied_then a.by-nodes _ 1 _ a.tally o.s.tally y.result.tally (omega (arith, o.invariant.2)) o.invariant.4 y.ensures.tallied_more,
+      tallied_then a.by_nodes _ 1 _ a.tally o.s.tally y.result.tally (omega (arith, o.invariant.2)) o.invariant.4 y.ensures.tallied_more,
     )
 
 pub returns : goal.returns
 returns c = let a = c.args in
     let o = c.loop-f in
-    let t = input a.l.at-1 a.work.now in
+    let t = input a.l.at a.work.now in
     let done : o.f ≡ first_of a.l t (a.c + 1) = omega (arith, o.invariant.3, c.loop-f-test.false, c.first_face-end.ensures.0) in
-    let all : o.f - c.first_face-f.result ≡ face_count a.l t a.c = omega (arith, done, c.first_face-f.ensures.0) in record { marked = facing_end (plain_rules a.coords.now a.tol) a.l a.work.now o.work o.s.range a.c _ o.f c.first_face-f.ensures.0 done o.invariant.0; beside = (o.invariant.0.beside, o.invariant.0.high); tallied_more = subst (λ (n : ℕ). TalliedMore a.by-nodes n a.tally o.s.tally) all o.invariant.4 }
+    let all : o.f - c.first_face-f.result ≡ face_count a.l t a.c = omega (arith, done, c.first_face-f.ensures.0) in record { marked = facing_end (plain_rules a.coords.now a.tol) a.l a.work.now o.work o.s.range a.c _ o.f c.first_face-f.ensures.0 done o.invariant.0; beside = (o.invariant.0.beside, o.invariant.0.high); tallied_more = subst (λ (n : ℕ). TalliedMore a.by_nodes n a.tally o.s.tally) all o.invariant.4 }

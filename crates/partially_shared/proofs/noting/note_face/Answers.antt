@@ -25,7 +25,7 @@ note_found-range-requires c = let a = c.args in
         c.requires.f_lt_faces.1,
         c.requires.f_lt_faces.2,
         c.count.ensures ∙ sought_number a.l a.work.now v a.f n s q,
-        ap (λ (k : ℕ). region a.l.at-1.found k v) c.count.ensures ∙ sought_there a.l a.work.now v a.f n s q,
+        ap (λ (k : ℕ). region a.l.at.found k v) c.count.ensures ∙ sought_there a.l a.work.now v a.f n s q,
       );
     }
 
@@ -37,4 +37,4 @@ returns c = let a = c.args in
     let s = c.requires.searching in
     let q = y.ensures.sought_by.sought in
     let n = found_in y.result in
-    let m = sought_beside a.l a.work.now v a.f n s q in record { marked_more = sought_more a.l a.work.now v a.f n s q (plain_rules a.coords.now a.tol) z.new.work a.r.range z.result z.ensures.marked_more; beside = (beside_then a.l.at-1.found a.l a.work.now v _ m (beside_less a.l.at-1.found a.l.marks a.l v _ (omega (arith, s.spaced.marks_at)) z.ensures.beside.0), z.ensures.beside.1); tallied_more = subst (λ (by : Bool). TalliedMore by 1 a.r.tally-1 c.tallied-more.result) y.ensures.sought_by.way c.tallied-more.ensures }
+    let m = sought_beside a.l a.work.now v a.f n s q in record { marked_more = sought_more a.l a.work.now v a.f n s q (plain_rules a.coords.now a.tol) z.new.work a.r.range z.result z.ensures.marked_more; beside = (beside_then a.l.at.found a.l a.work.now v _ m (beside_less a.l.at.found a.l.marks a.l v _ (omega (arith, s.spaced.marks_at)) z.ensures.beside.0), z.ensures.beside.1); tallied_more = subst (λ (by : Bool). TalliedMore by 1 a.r.tally c.tallied-more.result) y.ensures.sought_by.way c.tallied-more.ensures }

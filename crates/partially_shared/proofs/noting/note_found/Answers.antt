@@ -13,36 +13,36 @@ loop-i-init c = let a = c.args in
 
 pub overflow_add-found : goal.overflow_add-found
 overflow_add-found c = let a = c.args in
-    let few = candidates_few a.l.at-1 (input a.l.at-1 a.work.now) a.f in
+    let few = candidates_few a.l.at (input a.l.at a.work.now) a.f in
     let sp = c.requires.searching.spaced in
     omega (arith, sp.marks_at, sp.others_at, sp.last_at, sp.pairs_at, sp.spare_at, sp.ends, few, c.requires.f_lt_faces.3, c.loop-i-test.true)
 
 pub offset_bounds-work-found : goal.offset_bounds-work-found
 offset_bounds-work-found c = let a = c.args in
-    let few = candidates_few a.l.at-1 (input a.l.at-1 a.work.now) a.f in
+    let few = candidates_few a.l.at (input a.l.at a.work.now) a.f in
     let sp = c.requires.searching.spaced in
     omega (arith, sp.marks_at, sp.others_at, sp.last_at, sp.pairs_at, sp.spare_at, sp.ends, few, c.requires.f_lt_faces.3, c.loop-i-test.true)
 
 pub bounds-work-found : goal.bounds-work-found
 bounds-work-found c = let a = c.args in
-    let few = candidates_few a.l.at-1 (input a.l.at-1 a.work.now) a.f in
+    let few = candidates_few a.l.at (input a.l.at a.work.now) a.f in
     let sp = c.requires.searching.spaced in
     omega (arith, sp.marks_at, sp.others_at, sp.last_at, sp.pairs_at, sp.spare_at, sp.ends, few, c.requires.f_lt_faces.3, c.loop-i-test.true, c.loop-i.invariant.1)
 
 pub note-s-requires : goal.note-s-requires
 note-s-requires c = let a = c.args in
-    let few = candidates_few a.l.at-1 (input a.l.at-1 a.work.now) a.f in
+    let few = candidates_few a.l.at (input a.l.at a.work.now) a.f in
     let sp = c.requires.searching.spaced in
     let o = c.loop-i in
     let h = c.loop-i-test.true in
     let R = plain_rules a.coords.now a.tol in
     let e = next_is R a.l a.f a.work.now a.r c.requires.searching a.n o.work o.s o.i o.invariant.0 c.requires.f_lt_faces.3 (omega (arith, few, c.requires.f_lt_faces.3)) c.requires.f_lt_faces.4 h in
-    let low = candidate_low a.l.at-1 (input a.l.at-1 a.work.now) a.f o.i (omega (arith, h, c.requires.f_lt_faces.3)) in
+    let low = candidate_low a.l.at (input a.l.at a.work.now) a.f o.i (omega (arith, h, c.requires.f_lt_faces.3)) in
     record { searching = o.invariant.0.search; f_lt_faces = (c.requires.f_lt_faces.0, omega (arith, low, c.wide-g.ensures, e), c.requires.f_lt_faces.1, o.invariant.0.high) }
 
 pub loop-i-preserved : goal.loop-i-preserved
 loop-i-preserved c = let a = c.args in
-    let few = candidates_few a.l.at-1 (input a.l.at-1 a.work.now) a.f in
+    let few = candidates_few a.l.at (input a.l.at a.work.now) a.f in
     let sp = c.requires.searching.spaced in
     let o = c.loop-i in
     let h = c.loop-i-test.true in
@@ -54,8 +54,8 @@ loop-i-preserved c = let a = c.args in
 
 pub returns : goal.returns
 returns c = let a = c.args in
-    let few = candidates_few a.l.at-1 (input a.l.at-1 a.work.now) a.f in
+    let few = candidates_few a.l.at (input a.l.at a.work.now) a.f in
     let sp = c.requires.searching.spaced in
     let o = c.loop-i in
-    let t = input a.l.at-1 a.work.now in
+    let t = input a.l.at a.work.now in
     record { marked_more = more_all (plain_rules a.coords.now a.tol) a.l t a.f o.i a.work.now o.work a.r o.s (omega (arith, c.requires.f_lt_faces.3, c.loop-i-test.false)) o.invariant.0.more; beside = (o.invariant.0.beside, o.invariant.0.high) }
