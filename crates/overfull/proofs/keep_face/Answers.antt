@@ -8,43 +8,72 @@ use Rattle.overfull.proofs.Keeping.{none_kept, many_kept}
 use Rattle.overfull.proofs.keep_face.Goals as goal
 
 pub count_alike-s-requires : goal.count_alike-s-requires
-count_alike-s-requires c = let a = c.args in
-    record { standing = c.requires.standing; g_lt_faces = (face_in a.l a.work.now c.requires.standing.faced a.c a.g c.requires.face_of.0, c.requires.face_of.2) }
+count_alike-s-requires c =
+    let a = c.args in
+    let r = c.requires in
+    let h = face_in a.l a.work.now r.standing.faced a.c a.g r.face_of.0 in
+    record { standing = r.standing; g_lt_faces = (h, r.face_of.2) }
 
 pub returns-then-s-lt3 : goal.returns-then-s-lt3
-returns-then-s-lt3 c = let a = c.args in
-    record { kept_any = none_kept a.coords.now a.room a.n (over_face a.l (input a.l.at a.work.now) a.g) a.findings.now (over_few a.l (input a.l.at a.work.now) c.requires.standing.faced a.g (face_in a.l a.work.now c.requires.standing.faced a.c a.g c.requires.face_of.0) c.count_alike-s.result c.count_alike-s.ensures (omega (arith, c.if-s-lt3.true))); upper_bound = omega arith }
+returns-then-s-lt3 c =
+    let a = c.args in
+    let r = c.requires in
+    let h = face_in a.l a.work.now r.standing.faced a.c a.g r.face_of.0 in
+    let t = input a.l.at a.work.now in
+    let s = c.count_alike-s in
+    let e = over_few a.l t r.standing.faced a.g h s.result s.ensures (omega (arith, c.if-s-lt3.true)) in
+    record { kept_any = none_kept a.coords.now a.room a.n (over_face a.l t a.g) a.findings.now e; upper_bound = omega arith }
 
 pub narrow-requires : goal.narrow-requires
 narrow-requires c = omega (arith, c.requires.face_of.0.cell, c.requires.standing.spaced.few_cells)
 
 pub cell_of-requires : goal.cell_of-requires
-cell_of-requires c = let a = c.args in
-    record { faced = c.requires.standing.faced; g_lt_faces = (over_many a.l (input a.l.at a.work.now) c.requires.standing.faced a.g (face_in a.l a.work.now c.requires.standing.faced a.c a.g c.requires.face_of.0) c.count_alike-s.result c.count_alike-s.ensures (omega (arith, c.if-s-lt3.false))).second }
+cell_of-requires c =
+    let a = c.args in
+    let r = c.requires in
+    let h = face_in a.l a.work.now r.standing.faced a.c a.g r.face_of.0 in
+    let s = c.count_alike-s in
+    let m = over_many a.l (input a.l.at a.work.now) r.standing.faced a.g h s.result s.ensures (omega (arith, c.if-s-lt3.false)) in
+    record { faced = r.standing.faced; g_lt_faces = m.second }
 
 pub narrow-requires-2 : goal.narrow-requires-2
 narrow-requires-2 c = omega (arith, c.cell_of.ensures.1, c.requires.standing.spaced.few_cells)
 
 pub narrow-requires-3 : goal.narrow-requires-3
-narrow-requires-3 c = let a = c.args in
-    omega (arith, face_in a.l a.work.now c.requires.standing.faced a.c a.g c.requires.face_of.0, c.requires.standing.spaced.few_faces)
+narrow-requires-3 c =
+    let a = c.args in
+    let r = c.requires in
+    let h = face_in a.l a.work.now r.standing.faced a.c a.g r.face_of.0 in
+    omega (arith, h, r.standing.spaced.few_faces)
 
 pub narrow-requires-4 : goal.narrow-requires-4
-narrow-requires-4 c = let a = c.args in
-    omega (arith, (over_many a.l (input a.l.at a.work.now) c.requires.standing.faced a.g (face_in a.l a.work.now c.requires.standing.faced a.c a.g c.requires.face_of.0) c.count_alike-s.result c.count_alike-s.ensures (omega (arith, c.if-s-lt3.false))).few, c.requires.standing.spaced.few_faces)
+narrow-requires-4 c =
+    let a = c.args in
+    let r = c.requires in
+    let h = face_in a.l a.work.now r.standing.faced a.c a.g r.face_of.0 in
+    let s = c.count_alike-s in
+    let m = over_many a.l (input a.l.at a.work.now) r.standing.faced a.g h s.result s.ensures (omega (arith, c.if-s-lt3.false)) in
+    omega (arith, m.few, r.standing.spaced.few_faces)
 
 pub centre_of-requires : goal.centre_of-requires
-centre_of-requires c = let a = c.args in
-    record { faced = c.requires.standing.faced; g_lt_faces = (face_in a.l a.work.now c.requires.standing.faced a.c a.g c.requires.face_of.0, c.requires.face_of.1) }
+centre_of-requires c =
+    let a = c.args in
+    let r = c.requires in
+    let h = face_in a.l a.work.now r.standing.faced a.c a.g r.face_of.0 in
+    record { faced = r.standing.faced; g_lt_faces = (h, r.face_of.1) }
 
 pub returns : goal.returns
-returns c = let a = c.args in
-    let o = c.requires.face_of.0 in
+returns c =
+    let a = c.args in
+    let r = c.requires in
+    let h = face_in a.l a.work.now r.standing.faced a.c a.g r.face_of.0 in
+    let o = r.face_of.0 in
     let T = c.count_alike-s.result in
-    let m = over_many a.l (input a.l.at a.work.now) c.requires.standing.faced a.g (face_in a.l a.work.now c.requires.standing.faced a.c a.g o) T c.count_alike-s.ensures (omega (arith, c.if-s-lt3.false)) in
+    let m = over_many a.l (input a.l.at a.work.now) r.standing.faced a.g h T c.count_alike-s.ensures (omega (arith, c.if-s-lt3.false)) in
     let k = many_kept a.coords.now a.room a.n a.l (input a.l.at a.work.now) a.g T m
     (record { kind = 2; first = c.narrow.result; second = c.narrow-2.result; a = c.narrow-3.result; b = 0; count = c.narrow-4.result })
     c.centre_of.result a.findings.now c.keep_record.new.findings c.keep_record.result refl
-    (c.narrow.ensures ∙ sym (c.requires.standing.faced.owned a.c a.g o.cell o.from o.before)) (c.narrow-2.ensures ∙ c.cell_of.ensures.0) c.narrow-3.ensures refl c.narrow-4.ensures
+    (c.narrow.ensures ∙ sym (r.standing.faced.owned a.c a.g o.cell o.from o.before))
+    (c.narrow-2.ensures ∙ c.cell_of.ensures.0) c.narrow-3.ensures refl c.narrow-4.ensures
     c.centre_of.ensures c.keep_record.ensures in
     record { kept_any = k.0; upper_bound = k.1 }

@@ -27,11 +27,14 @@ same_key-requires c = record {
 }
 
 pub returns-then-h-g : goal.returns-then-h-g
-returns-then-h-g c = let a = c.args in
+returns-then-h-g c =
+    let a = c.args in
+    let p = same_as a.l (input a.l.at a.work.now) a.g in
     let o = c.loop-i in
     let h = c.wide-h.result in
-    let k = kept_same (same_as a.l (input a.l.at a.work.now) a.g) o.i a.e h a.work.now c.wide-h.ensures c.loop-i-test.true c.requires.listed.within (sym c.same_key.ensures ∙ c.if-same_key.true) in
-    let hs = keep (same_as a.l (input a.l.at a.work.now) a.g) (rest (o.i + 1) a.e a.work.now) in
+    let k = kept_same p o.i a.e h a.work.now c.wide-h.ensures c.loop-i-test.true c.requires.listed.within
+    (sym c.same_key.ensures ∙ c.if-same_key.true) in
+    let hs = keep p (rest (o.i + 1) a.e a.work.now) in
     sym (ap (λ (r : List ℕ). tallied a.g r o.s) k ∙ lower a.g h hs o.s c.if-h-g.true) ∙ o.invariant.3
 
 pub note-s-requires : goal.note-s-requires
@@ -39,11 +42,14 @@ note-s-requires c = let o = c.loop-i in
     omega (arith, o.invariant, c.requires.listed.few, c.loop-i-test.true)
 
 pub loop-i-preserved-then-same_key : goal.loop-i-preserved-then-same_key
-loop-i-preserved-then-same_key c = let a = c.args in
+loop-i-preserved-then-same_key c =
+    let a = c.args in
+    let p = same_as a.l (input a.l.at a.work.now) a.g in
     let o = c.loop-i in
     let h = c.wide-h.result in
-    let k = kept_same (same_as a.l (input a.l.at a.work.now) a.g) o.i a.e h a.work.now c.wide-h.ensures c.loop-i-test.true c.requires.listed.within (sym c.same_key.ensures ∙ c.if-same_key.true) in
-    let hs = keep (same_as a.l (input a.l.at a.work.now) a.g) (rest (o.i + 1) a.e a.work.now) in (
+    let k = kept_same p o.i a.e h a.work.now c.wide-h.ensures c.loop-i-test.true c.requires.listed.within
+    (sym c.same_key.ensures ∙ c.if-same_key.true) in
+    let hs = keep p (rest (o.i + 1) a.e a.work.now) in (
       omega (arith, o.invariant.0),
       omega (arith, c.loop-i-test.true),
       omega (arith, o.invariant.2, o.invariant.0, ap (λ (r : Tally). r.count) c.note-s.ensures),
@@ -51,13 +57,22 @@ loop-i-preserved-then-same_key c = let a = c.args in
     )
 
 pub loop-i-preserved : goal.loop-i-preserved
-loop-i-preserved c = let a = c.args in
+loop-i-preserved c =
+    let a = c.args in
+    let p = same_as a.l (input a.l.at a.work.now) a.g in
     let o = c.loop-i in
     let h = c.wide-h.result in
-    let k = kept_other (same_as a.l (input a.l.at a.work.now) a.g) o.i a.e h a.work.now c.wide-h.ensures c.loop-i-test.true c.requires.listed.within (sym c.same_key.ensures ∙ c.if-same_key.false) in
-    (omega (arith, o.invariant.0), omega (arith, c.loop-i-test.true), omega (arith, o.invariant.2, o.invariant.0), sym (ap (λ (r : List ℕ). tallied a.g r o.s) k) ∙ o.invariant.3)
+    let k = kept_other p o.i a.e h a.work.now c.wide-h.ensures c.loop-i-test.true c.requires.listed.within
+    (sym c.same_key.ensures ∙ c.if-same_key.false) in (
+      omega (arith, o.invariant.0),
+      omega (arith, c.loop-i-test.true),
+      omega (arith, o.invariant.2, o.invariant.0),
+      sym (ap (λ (r : List ℕ). tallied a.g r o.s) k) ∙ o.invariant.3,
+    )
 
 pub returns : goal.returns
-returns c = let a = c.args in
+returns c =
+    let a = c.args in
+    let p = same_as a.l (input a.l.at a.work.now) a.g in
     let o = c.loop-i in
-    sym (ap (λ (r : List ℕ). tallied a.g r o.s) (kept_end (same_as a.l (input a.l.at a.work.now) a.g) o.i a.e a.work.now (omega (arith, c.loop-i-test.false)))) ∙ o.invariant.3
+    sym (ap (λ (r : List ℕ). tallied a.g r o.s) (kept_end p o.i a.e a.work.now (omega (arith, c.loop-i-test.false)))) ∙ o.invariant.3
