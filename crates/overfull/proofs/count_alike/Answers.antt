@@ -97,7 +97,8 @@ walk-requires c =
     let r = c.requires in
     let v = c.rarest-v in
     let l = listed a.l a.by a.work.now r.standing r.g_lt_faces.1 a.g r.g_lt_faces.0 v.result v.ensures
-    (a.by.index + c.wide.result) (a.by.index + c.wide-2.result) (ap (λ (k : ℕ). a.by.index + k) c.wide.ensures) (ap (λ (k : ℕ). a.by.index + k) c.wide-2.ensures) in
+    (a.by.index + c.wide.result) (a.by.index + c.wide-2.result) (ap (λ (k : ℕ). a.by.index + k) c.wide.ensures)
+    (ap (λ (k : ℕ). a.by.index + k) c.wide-2.ensures) in
     record { faced = r.standing.faced; listed = l }
 
 pub returns : goal.returns
@@ -107,4 +108,5 @@ returns c =
     let v = c.rarest-v in
     c.walk.ensures
     ∙ ap (λ (w : List ℕ). tallied a.g w (start a.g)) (all_alike a.l a.by a.work.now r.standing r.g_lt_faces.1 a.g r.g_lt_faces.0 v.result v.ensures
-    (a.by.index + c.wide.result) (a.by.index + c.wide-2.result) (ap (λ (k : ℕ). a.by.index + k) c.wide.ensures) (ap (λ (k : ℕ). a.by.index + k) c.wide-2.ensures))
+    (a.by.index + c.wide.result) (a.by.index + c.wide-2.result) (ap (λ (k : ℕ). a.by.index + k) c.wide.ensures)
+    (ap (λ (k : ℕ). a.by.index + k) c.wide-2.ensures))
