@@ -1,8 +1,8 @@
 // The program: reads a model's file from standard input and writes its report to standard output.
 #![tactic(auto)]
 
-use libc::{STDIN_FILENO, STDOUT_FILENO};
+use std::io;
 
-fn main() {
-    program_io::run_between(STDIN_FILENO, STDOUT_FILENO);
+fn main(rt: HostRuntime) -> io::Result<()> {
+    program_io::run_between(&mut rt.stdin(), &mut rt.stdout())
 }

@@ -5,9 +5,11 @@
 ghost use Rattle.std.specs.Prelude.{◌<◌};
 
 use model_file::{Found, ReadAnswer, WriteAnswer};
+use std::io;
+use std::rt::Files;
 
 // What came of a file: reading's refusal or 0; what it holds; writing's refusal, or 0 and whether the bytes are the same.
-#[derive(Drop)]
+#[derive(Clone, Copy)]
 struct Outcome {
     read: u8,
     nodes: usize,
@@ -64,7 +66,7 @@ fn is_back(s: &[u8], out: &[u8], n: usize) -> bool {
     if out.len() < n {
         return false;
     }
-    check::same(s, &out[0..n])
+    s == &out[0..n]
 }
 
 // Writes back what was read.
@@ -137,7 +139,7 @@ fn trial(s: &[u8]) -> Outcome {
     let mut kinds = [0u8; 400];
     let mut ends = [0u32; 400];
     let mut words = [0u32; 4000];
-    let mut out = io::large_buffer();
+    let mut out = [0u8; 65536];
     let r = model_read::read(s, &mut coords, &mut kinds, &mut ends, &mut words);
     match r {
         ReadAnswer::Refused(n) => refused(n),
@@ -148,33 +150,30 @@ fn trial(s: &[u8]) -> Outcome {
 // ---- printing
 
 // What was read.
-fn say_counts(t: Outcome) {
-    test_support::say_number(b" nodes ", t.nodes as u64);
-    test_support::say_number(b" cells ", t.cells as u64);
-    test_support::say_number(b" words ", t.words as u64);
-    test_support::say_number(b" sum ", t.sum);
+fn say_counts(rt: &impl Print, t: Outcome) -> io::Result<()> {
+    test_support::say_number(rt, b" nodes ", t.nodes as u64)?;
+    test_support::say_number(rt, b" cells ", t.cells as u64)?;
+    test_support::say_number(rt, b" words ", t.words as u64)?;
+    test_support::say_number(rt, b" sum ", t.sum)
 }
 
 // What came of writing it back.
-fn say_written(t: Outcome) {
+fn say_written(rt: &impl Print, t: Outcome) -> io::Result<()> {
     if t.write != 0 {
-        test_support::tell(b" not written", t.write as u64);
-        return;
+        return test_support::tell(rt, b" not written", t.write as u64);
     }
     if t.same {
-        test_support::say(b" the same\n");
-        return;
+        return test_support::say(rt, b" the same\n");
     }
-    test_support::say(b" DIFFERENT\n");
+    test_support::say(rt, b" DIFFERENT\n")
 }
 
-fn say_outcome(t: Outcome) {
+fn say_outcome(rt: &impl Print, t: Outcome) -> io::Result<()> {
     if t.read != 0 {
-        test_support::tell(b" refused", t.read as u64);
-        return;
+        return test_support::tell(rt, b" refused", t.read as u64);
     }
-    say_counts(t);
-    say_written(t);
+    say_counts(rt, t)?;
+    say_written(rt, t)
 }
 
 // One letter for an outcome: the number that refuses (A for 10), = for the same bytes, ! for others.
@@ -208,7 +207,7 @@ fn numeral(n: usize) -> u8 {
 }
 
 // Published case n, where data/ has it.
-fn published(n: usize) {
+fn published<R: Files + Print>(rt: &R, n: usize) -> io::Result<()> {
     let name = [
         b'c',
         b'a',
@@ -223,22 +222,23 @@ fn published(n: usize) {
         b'i',
         b'n',
     ];
-    let mut buf = io::large_buffer();
-    let file = test_support::read_file(&name, &mut buf);
+    let mut buf = [0u8; 65536];
+    let file = test_support::read_file(rt, &name, &mut buf);
     if !file.there {
-        return;
+        return Ok(());
     }
     let got = file.size;
-    test_support::say(&name);
-    say_outcome(trial(&buf[..got]));
+    test_support::say(rt, &name)?;
+    say_outcome(rt, trial(&buf[..got]))
 }
 
-fn all_published() {
+fn all_published<R: Files + Print>(rt: &R) -> io::Result<()> {
     let mut n: usize = 0;
     while n < 1000 {
-        published(n);
+        published(rt, n)?;
         n += 1;
     }
+    Ok(())
 }
 
 // ---- damage
@@ -247,68 +247,70 @@ fn changed(b: u8, by: u8) -> u8 {
     ((b as u32 + by as u32) % 256) as u8
 }
 
-fn say_letter(t: Outcome) {
+fn say_letter(rt: &impl Print, t: Outcome) -> io::Result<()> {
     let text = [letter(t)];
-    test_support::say(&text);
+    test_support::say(rt, &text)
 }
 
 // Byte p of s changed for one trial.
-fn damage(s: &mut [u8], p: usize, by: u8) {
+fn damage(rt: &impl Print, s: &mut [u8], p: usize, by: u8) -> io::Result<()> {
     if s.len() <= p {
-        return;
+        return Ok(());
     }
     let b = s[p];
     s[p] = changed(b, by);
-    say_letter(trial(s));
+    say_letter(rt, trial(s))?;
     s[p] = b;
     if p % 32 == 31 {
-        test_support::say(b"\n");
+        test_support::say(rt, b"\n")?;
     }
+    Ok(())
 }
 
 // Each byte in turn.
-fn damage_all(s: &mut [u8], by: u8) {
+fn damage_all(rt: &impl Print, s: &mut [u8], by: u8) -> io::Result<()> {
     let mut p: usize = 0;
     while p < 65536 {
-        damage(s, p, by);
+        damage(rt, s, p, by)?;
         p += 1;
     }
+    Ok(())
 }
 
 // The first p bytes of s.
-fn cut(s: &[u8], p: usize) {
+fn cut(rt: &impl Print, s: &[u8], p: usize) -> io::Result<()> {
     if s.len() < p {
-        return;
+        return Ok(());
     }
-    say_letter(trial(&s[0..p]));
+    say_letter(rt, trial(&s[0..p]))
 }
 
 // The file cut short behind each record.
-fn cut_all(s: &[u8]) {
+fn cut_all(rt: &impl Print, s: &[u8]) -> io::Result<()> {
     let mut n: usize = 0;
     while n < 2048 {
-        cut(s, 32 * n);
+        cut(rt, s, 32 * n)?;
         n += 1;
     }
-    test_support::say(b"\n");
+    test_support::say(rt, b"\n")
 }
 
-fn damages(s: &mut [u8]) {
-    say_outcome(trial(s));
-    cut_all(s);
-    damage_all(s, 1);
-    damage_all(s, 128);
+fn damages(rt: &impl Print, s: &mut [u8]) -> io::Result<()> {
+    say_outcome(rt, trial(s))?;
+    cut_all(rt, s)?;
+    damage_all(rt, s, 1)?;
+    damage_all(rt, s, 128)
 }
 
-fn damaged() {
-    let mut buf = io::large_buffer();
+fn damaged<R: Files + Print>(rt: &R) -> io::Result<()> {
+    let mut buf = [0u8; 65536];
     let name = b"good.in";
-    let got = test_support::read_file(name, &mut buf).size;
-    test_support::say(name);
-    damages(&mut buf[..got]);
+    let got = test_support::read_file(rt, name, &mut buf).size;
+    test_support::say(rt, name)?;
+    damages(rt, &mut buf[..got])
 }
 
-fn main() {
-    all_published();
-    damaged();
+fn main(rt: HostRuntime) -> io::Result<()> {
+    all_published(&rt)?;
+    damaged(&rt)
 }

@@ -2,9 +2,11 @@
 ghost use Rattle.std.specs.Prelude.{◌+◌, ◌≤◌, ◌<◌, length};
 
 use crate::{areas, welds};
+use std::io;
+use std::rt::Files;
 
 // What a list holds.
-#[derive(Drop)]
+#[derive(Clone, Copy)]
 pub enum Kind {
     Welds,
     Areas,
@@ -62,7 +64,7 @@ fn agrees(set: &[u8], kind: Kind) -> bool {
 }
 
 // The entries of a list, one after the other.
-fn run_all(s: &[u8], kind: Kind) {
+fn run_all(rt: &impl Print, s: &[u8], kind: Kind) -> io::Result<()> {
     let mut at: usize = 0;
     while at < s.len() {
         let e = entry_at(s, at);
@@ -71,17 +73,17 @@ fn run_all(s: &[u8], kind: Kind) {
         let from = e.from;
         let to = e.to;
         if to <= at {
-            test_support::tell_agrees(b"an entry cut short", false);
-            return;
+            return test_support::tell_agrees(rt, b"an entry cut short", false);
         }
-        test_support::tell_agrees(&s[name..size], agrees(&s[from..to], kind));
+        test_support::tell_agrees(rt, &s[name..size], agrees(&s[from..to], kind))?;
         at = to;
     }
+    Ok(())
 }
 
 // The list of data/ with that name.
-pub fn run(name: &[u8], kind: Kind) {
+pub fn run<R: Files + Print>(rt: &R, name: &[u8], kind: Kind) -> io::Result<()> {
     let mut buf = [0u8; 350000];
-    let n = test_support::read_file(name, &mut buf).size;
-    run_all(&buf[0..n], kind);
+    let n = test_support::read_file(rt, name, &mut buf).size;
+    run_all(rt, &buf[0..n], kind)
 }

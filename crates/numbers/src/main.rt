@@ -6,8 +6,10 @@ mod lists;
 mod roots;
 mod welds;
 
-fn main() {
-    roots::run();
-    lists::run(b"welds", lists::Kind::Welds);
-    lists::run(b"areas", lists::Kind::Areas);
+use std::io;
+
+fn main(rt: HostRuntime) -> io::Result<()> {
+    roots::run(&rt)?;
+    lists::run(&rt, b"welds", lists::Kind::Welds)?;
+    lists::run(&rt, b"areas", lists::Kind::Areas)
 }

@@ -1,7 +1,8 @@
 // Recorded roots: pairs of patterns, a value and its root.
 ghost use Rattle.std.specs.Prelude.{◌≡◌, ◌+◌, ◌/◌, ◌≤◌, length};
 
-use libc::STDOUT_FILENO;
+use std::io;
+use std::rt::Files;
 
 // How many pairs were run, and how many agree.
 #[derive(Drop)]
@@ -36,13 +37,9 @@ fn run_all(s: &[u8]) -> Tally
 }
 
 // The roots of data/.
-pub fn run() {
-    let mut buffer = io::large_buffer();
-    let n = test_support::read_file(b"roots", &mut buffer).size;
+pub fn run<R: Files + Print>(rt: &R) -> io::Result<()> {
+    let mut buffer = [0u8; 65536];
+    let n = test_support::read_file(rt, b"roots", &mut buffer).size;
     let t = run_all(&buffer[..n]);
-    io::write_all(STDOUT_FILENO, b"roots ");
-    io::print_decimal(STDOUT_FILENO, t.run);
-    io::write_all(STDOUT_FILENO, b" agree ");
-    io::print_decimal(STDOUT_FILENO, t.agree);
-    io::write_all(STDOUT_FILENO, b"\n");
+    println!(rt; "roots {} agree {}", t.run, t.agree)
 }

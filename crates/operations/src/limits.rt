@@ -8,9 +8,11 @@ ghost use Rattle.std.specs.Prelude.{◌≡◌, ◌+◌, ◌≤◌, ◌<◌, leng
 use crate::nodes;
 use mesh::Checks;
 use ring_lists::RingsAnswer;
+use std::io;
+use std::rt::Files;
 
 // Where the parts of a model start, and the next model.
-#[derive(Drop)]
+#[derive(Clone, Copy)]
 struct Parts {
     name: usize,
     coords: usize,
@@ -85,23 +87,23 @@ fn judge(s: &[u8], m: Parts) -> u8
 }
 
 // A line for each model of the list.
-fn judge_all(s: &[u8]) {
+fn judge_all(rt: &impl Print, s: &[u8]) -> io::Result<()> {
     let mut at: usize = 0;
     while 24 <= s.len() - at {
         let m = parts_at(s, at);
         let name = m.name;
         let coords = m.coords;
         if s.len() < m.to {
-            test_support::tell(b"a model cut short", 255);
-            return;
+            return test_support::tell(rt, b"a model cut short", 255);
         }
-        test_support::tell(&s[name..coords], judge(s, m) as u64);
+        test_support::tell(rt, &s[name..coords], judge(s, m) as u64)?;
         at = m.to;
     }
+    Ok(())
 }
 
 // What filling ring lists of so many words, with so many words of work, says: R is 12, F 4, the work needed 168.
-fn fill(name: &[u8], list: usize, room: usize, flags: u8)
+fn fill(rt: &impl Print, name: &[u8], list: usize, room: usize, flags: u8) -> io::Result<()>
     requires { (list ≤ 13) × (room ≤ 169) }
 {
     let c = nodes::corners();
@@ -121,28 +123,28 @@ fn fill(name: &[u8], list: usize, room: usize, flags: u8)
         &mut work[0..room],
     );
     match r {
-        RingsAnswer::Refused(n) => test_support::tell(name, n as u64),
+        RingsAnswer::Refused(n) => test_support::tell(rt, name, n as u64),
         RingsAnswer::Words(n) => {
-            test_support::say(name);
-            test_support::tell(b" filled", n as u64);
+            test_support::say(rt, name)?;
+            test_support::tell(rt, b" filled", n as u64)
         }
     }
 }
 
 // 11, then 4.
-fn fills() {
-    fill(b"lists of 12 words, work of 168", 12, 168, 3);
-    fill(b"lists of 13 words, work of 169", 13, 169, 3);
-    fill(b"work of 167", 12, 167, 3);
-    fill(b"no work", 12, 0, 3);
-    fill(b"a list of 11 words", 11, 168, 3);
-    fill(b"a list of 11 words, work of 167", 11, 167, 3);
-    fill(b"work of 167, flags 4", 12, 167, 4);
+fn fills(rt: &impl Print) -> io::Result<()> {
+    fill(rt, b"lists of 12 words, work of 168", 12, 168, 3)?;
+    fill(rt, b"lists of 13 words, work of 169", 13, 169, 3)?;
+    fill(rt, b"work of 167", 12, 167, 3)?;
+    fill(rt, b"no work", 12, 0, 3)?;
+    fill(rt, b"a list of 11 words", 11, 168, 3)?;
+    fill(rt, b"a list of 11 words, work of 167", 11, 167, 3)?;
+    fill(rt, b"work of 167, flags 4", 12, 167, 4)
 }
 
-pub fn run() {
-    let mut buf = io::large_buffer();
-    let got = test_support::read_file(b"limits", &mut buf).size;
-    judge_all(&buf[..got]);
-    fills();
+pub fn run<R: Files + Print>(rt: &R) -> io::Result<()> {
+    let mut buf = [0u8; 65536];
+    let got = test_support::read_file(rt, b"limits", &mut buf).size;
+    judge_all(rt, &buf[..got])?;
+    fills(rt)
 }

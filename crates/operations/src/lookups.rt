@@ -4,20 +4,21 @@ ghost use Rattle.std.specs.Prelude.{◌≤◌};
 use crate::nodes;
 use area::AreaAnswer;
 use mesh::{Checks, Counted, RingList};
+use std::io;
 
 fn wide(x: u32) -> u64 {
     x as u64
 }
 
 // A line: a name and words.
-fn list(name: &[u8], words: &[u32]) {
-    test_support::say(name);
+fn list(rt: &impl Print, name: &[u8], words: &[u32]) -> io::Result<()> {
+    test_support::say(rt, name)?;
     let mut i = 0;
     while i < words.len() {
-        test_support::say_number(b" ", wide(words[i]));
+        test_support::say_number(rt, b" ", wide(words[i]))?;
         i += 1;
     }
-    test_support::say(b"\n");
+    test_support::say(rt, b"\n")
 }
 
 // ---- the ring lookup
@@ -56,7 +57,7 @@ fn refusal(len: usize, face: usize, flags: u8) -> u8
 }
 
 // The ring that the same lookup hands back.
-fn part(len: usize, which: RingList, face: usize, flags: u8)
+fn part(rt: &impl Print, len: usize, which: RingList, face: usize, flags: u8) -> io::Result<()>
     requires { len ≤ 13 }
 {
     let raw = raw_list();
@@ -75,43 +76,59 @@ fn part(len: usize, which: RingList, face: usize, flags: u8)
         which,
         face,
     );
-    list(b"  part", ring);
+    list(rt, b"  part", ring)
 }
 
 // Both.
-fn look(name: &[u8], len: usize, which: RingList, face: usize, flags: u8)
+fn look(
+    rt: &impl Print,
+    name: &[u8],
+    len: usize,
+    which: RingList,
+    face: usize,
+    flags: u8,
+) -> io::Result<()>
     requires { len ≤ 13 }
 {
-    test_support::tell(name, refusal(len, face, flags) as u64);
-    part(len, which, face, flags);
+    test_support::tell(rt, name, refusal(len, face, flags) as u64)?;
+    part(rt, len, which, face, flags)
 }
 
 // 4, then 12.
-fn looks() {
-    look(b"raw face 0", 12, RingList::Raw, 0, 3);
-    look(b"welded face 3", 12, RingList::Welded, 3, 3);
-    look(b"face 4 of four", 12, RingList::Raw, 4, 3);
+fn looks(rt: &impl Print) -> io::Result<()> {
+    look(rt, b"raw face 0", 12, RingList::Raw, 0, 3)?;
+    look(rt, b"welded face 3", 12, RingList::Welded, 3, 3)?;
+    look(rt, b"face 4 of four", 12, RingList::Raw, 4, 3)?;
     look(
+        rt,
         b"face 4 of four, a list of 13 words",
         13,
         RingList::Raw,
         4,
         3,
-    );
-    look(b"face 0, a list of 11 words", 11, RingList::Welded, 0, 3);
+    )?;
     look(
+        rt,
+        b"face 0, a list of 11 words",
+        11,
+        RingList::Welded,
+        0,
+        3,
+    )?;
+    look(
+        rt,
         b"face 0, a list of 11 words, flags 4",
         11,
         RingList::Welded,
         0,
         4,
-    );
+    )
 }
 
 // ---- face owners
 
 // The owners of a face of a tetrahedron and of a PHED that holds one of its faces twice, in a lent list.
-fn own_in(name: &[u8], face: usize, lent: &mut [u32]) {
+fn own_in(rt: &impl Print, name: &[u8], face: usize, lent: &mut [u32]) -> io::Result<()> {
     let c = nodes::corners();
     let words = [0u32, 1, 2, 3, 0, 1, 2, 4294967295, 2, 1, 0];
     let r = owners::face_owners(
@@ -125,35 +142,35 @@ fn own_in(name: &[u8], face: usize, lent: &mut [u32]) {
         lent,
     );
     match r {
-        Counted::Refused(n) => test_support::tell(name, n as u64),
+        Counted::Refused(n) => test_support::tell(rt, name, n as u64),
         Counted::Count(n) => {
-            test_support::say_number(b"held ", n as u64);
-            list(b" times by", lent);
+            test_support::say_number(rt, b"held ", n as u64)?;
+            list(rt, b" times by", lent)
         }
     }
 }
 
 // The same in a list of so many words.
-fn own(name: &[u8], face: usize, room: usize)
+fn own(rt: &impl Print, name: &[u8], face: usize, room: usize) -> io::Result<()>
     requires { room ≤ 4 }
 {
     let mut lent = [9u32; 4];
-    own_in(name, face, &mut lent[0..room]);
+    own_in(rt, name, face, &mut lent[0..room])
 }
 
 // As many as fit; then 12.
-fn owns() {
-    own(b"face 3", 3, 4);
-    own(b"face 3", 3, 2);
-    own(b"face 0", 0, 4);
-    own(b"face 6 of six", 6, 4);
-    own(b"face 7 of six", 7, 4);
+fn owns(rt: &impl Print) -> io::Result<()> {
+    own(rt, b"face 3", 3, 4)?;
+    own(rt, b"face 3", 3, 2)?;
+    own(rt, b"face 0", 0, 4)?;
+    own(rt, b"face 6 of six", 6, 4)?;
+    own(rt, b"face 7 of six", 7, 4)
 }
 
 // ---- the area test
 
 // What the area test says of the three nodes, or of so many that are 0.
-fn test(name: &[u8], last: u32, many: usize, tol: f64)
+fn test(rt: &impl Print, name: &[u8], last: u32, many: usize, tol: f64) -> io::Result<()>
     requires { many ≤ 65 }
 {
     let c = nodes::corners();
@@ -162,22 +179,22 @@ fn test(name: &[u8], last: u32, many: usize, tol: f64)
     nodes[2] = last;
     let r = area::area_test(&c, &nodes[0..many], tol);
     match r {
-        AreaAnswer::Refused(n) => test_support::tell(name, n as u64),
-        AreaAnswer::Says(_) => test_support::tell(name, 0),
+        AreaAnswer::Refused(n) => test_support::tell(rt, name, n as u64),
+        AreaAnswer::Says(_) => test_support::tell(rt, name, 0),
     }
 }
 
 // 5, 6 and 12.
-fn tests() {
-    test(b"area of three nodes", 2, 3, 0.0);
-    test(b"area of 65 nodes", 2, 65, -1.0);
-    test(b"area of 64 nodes, tolerance below zero", 2, 64, -1.0);
-    test(b"area of 64 nodes, not ascending", 2, 64, 0.0);
-    test(b"area of a node too large", 4, 3, 0.0);
+fn tests(rt: &impl Print) -> io::Result<()> {
+    test(rt, b"area of three nodes", 2, 3, 0.0)?;
+    test(rt, b"area of 65 nodes", 2, 65, -1.0)?;
+    test(rt, b"area of 64 nodes, tolerance below zero", 2, 64, -1.0)?;
+    test(rt, b"area of 64 nodes, not ascending", 2, 64, 0.0)?;
+    test(rt, b"area of a node too large", 4, 3, 0.0)
 }
 
-pub fn run() {
-    looks();
-    owns();
-    tests();
+pub fn run(rt: &impl Print) -> io::Result<()> {
+    looks(rt)?;
+    owns(rt)?;
+    tests(rt)
 }

@@ -5,7 +5,9 @@ mod limits;
 mod lookups;
 mod nodes;
 
-fn main() {
-    limits::run();
-    lookups::run();
+use std::io;
+
+fn main(rt: HostRuntime) -> io::Result<()> {
+    limits::run(&rt)?;
+    lookups::run(&rt)
 }

@@ -1,21 +1,45 @@
-// The program's run between two open files: the input is read, run, and the output written.
+// The program's run between a reader and a writer: the input is read, run, and the output written.
 #![tactic(auto)]
 
 ghost use Rattle.std.specs.Prelude.{◌≤◌, ◌<◌, length};
+ghost use Rattle.std.specs.Io.{ReadsAtMost};
 ghost use Rattle.laws.specs.Limits.{input_limit};
 
+use std::io;
+use std::io::{Read, Write};
+
+// Reads to the front of buf until it is full or the input ends.
+fn read_full<R: Read>(input: &mut R, buf: &mut [u8]) -> io::Result<usize>
+    ensures { ReadsAtMost result buf.new }
+{
+    let mut done = 0;
+    while done < buf.len() {
+        let n = input.read(&mut buf[done..])?;
+        if n == 0 {
+            break;
+        }
+        done += n;
+    }
+    Ok(done)
+}
+
 // In lent arrays. There is room for more bytes than are judged, so that a longer input is seen to be one.
-fn run_in(input: i32, output: i32, bytes: &mut [u8], out: &mut [u8])
+fn run_in<R: Read, W: Write>(
+    input: &mut R,
+    output: &mut W,
+    bytes: &mut [u8],
+    out: &mut [u8],
+) -> io::Result<()>
     requires { (input_limit < length bytes.old) × (65600 ≤ length out.old) }
 {
-    let got = io::read_full(input, bytes);
+    let got = read_full(input, bytes)?;
     let n = program::run(&bytes[..got], out);
-    io::write_all(output, &out[0..n]);
+    output.write_all(&out[0..n])
 }
 
 // Reads a model's file from `input` and writes its report to `output`.
-pub fn run_between(input: i32, output: i32) {
+pub fn run_between<R: Read, W: Write>(input: &mut R, output: &mut W) -> io::Result<()> {
     let mut bytes = [0u8; 32769];
     let mut out = [0u8; 65600];
-    run_in(input, output, &mut bytes, &mut out);
+    run_in(input, output, &mut bytes, &mut out)
 }

@@ -6,7 +6,9 @@ mod lent;
 mod recorded;
 mod ways;
 
-fn main() {
-    cases::replay_all();
-    recorded::replay_all();
+use std::io;
+
+fn main(rt: HostRuntime) -> io::Result<()> {
+    cases::replay_all(&rt)?;
+    recorded::replay_all(&rt)
 }

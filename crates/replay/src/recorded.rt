@@ -3,10 +3,11 @@
 ghost use Rattle.std.specs.Prelude.{◌+◌, ◌<◌, ◌≤◌, length};
 
 use crate::{lent, ways};
-use libc::STDOUT_FILENO;
+use std::io;
+use std::rt::Files;
 
 // How many models were run, of how many the records and the ways agree, and how many faces were sought each way.
-#[derive(Drop)]
+#[derive(Clone, Copy)]
 struct Tally {
     models: u64,
     agree: u64,
@@ -14,7 +15,7 @@ struct Tally {
 }
 
 // Where a recorded model lies: its file from `from` to `mid`, the records from there to `to`. All 0 where it is cut short.
-#[derive(Drop)]
+#[derive(Clone, Copy)]
 struct Entry {
     from: usize,
     mid: usize,
@@ -137,27 +138,26 @@ fn agrees(s: &[u8], e: Entry) -> ways::Sought
 // ---- many models
 
 // Counts a model, with a line if it differs.
-fn counted(t: Tally, s: ways::Sought) -> Tally {
+fn counted(rt: &impl Print, t: Tally, s: ways::Sought) -> io::Result<Tally> {
     if !s.alike {
-        io::write_all(STDOUT_FILENO, b"model ");
-        io::print_decimal(STDOUT_FILENO, t.models);
-        io::write_all(STDOUT_FILENO, b" differs\n");
+        println!(rt; "model {} differs", t.models)?;
     }
-    Tally {
+    Ok(Tally {
         models: test_support::more(t.models, true),
         agree: test_support::more(t.agree, s.alike),
         faces: std::num::wrapping_add_u64(t.faces, s.faces),
-    }
+    })
 }
 
 // The models of a file, one after the other. What is cut short counts as one that differs.
-fn replay(s: &[u8], before: Tally) -> Tally {
+fn replay(rt: &impl Print, s: &[u8], before: Tally) -> io::Result<Tally> {
     let mut t = before;
     let mut at: usize = 0;
     while at < s.len() {
         let e = entry_at(s, at);
         if e.to <= at {
             return counted(
+                rt,
                 t,
                 ways::Sought {
                     alike: false,
@@ -165,32 +165,28 @@ fn replay(s: &[u8], before: Tally) -> Tally {
                 },
             );
         }
-        t = counted(t, agrees(s, e));
+        t = counted(rt, t, agrees(s, e))?;
         at = e.to;
     }
-    t
+    Ok(t)
 }
 
 // The file part-p, where data/ has it.
-fn replay_part(p: u8, t: Tally) -> Tally {
+fn replay_part<R: Files + Print>(rt: &R, p: u8, t: Tally) -> io::Result<Tally> {
     let name = [b'p', b'a', b'r', b't', b'-', p];
-    let mut buf = io::large_buffer();
-    let got = test_support::read_file(&name, &mut buf).size;
-    replay(&buf[..got], t)
+    let mut buf = [0u8; 65536];
+    let got = test_support::read_file(rt, &name, &mut buf).size;
+    replay(rt, &buf[..got], t)
 }
 
 // The line with the counts.
-fn count(t: Tally) {
-    io::print_decimal(STDOUT_FILENO, t.models);
-    io::write_all(STDOUT_FILENO, b" models: ");
-    io::print_decimal(STDOUT_FILENO, t.agree);
-    io::write_all(STDOUT_FILENO, b" agree, by either way; ");
-    io::print_decimal(STDOUT_FILENO, t.faces);
-    io::write_all(STDOUT_FILENO, b" faces sought each way\n");
+fn count(rt: &impl Print, t: Tally) -> io::Result<()> {
+    print!(rt; "{} models: {} agree, ", t.models, t.agree)?;
+    println!(rt; "by either way; {} faces sought each way", t.faces)
 }
 
 // The files part-0 to part-9.
-fn replay_parts() {
+fn replay_parts<R: Files + Print>(rt: &R) -> io::Result<()> {
     let mut t = Tally {
         models: 0,
         agree: 0,
@@ -198,10 +194,10 @@ fn replay_parts() {
     };
     let mut p: u8 = b'0';
     while p <= b'9' {
-        t = replay_part(p, t);
+        t = replay_part(rt, p, t)?;
         p += 1;
     }
-    count(t);
+    count(rt, t)
 }
 
 // ---- pins
@@ -219,26 +215,26 @@ fn name_end(s: &[u8], at: usize) -> usize
 }
 
 // The pins of a list, a name and an entry each.
-fn replay_pins(s: &[u8]) {
+fn replay_pins(rt: &impl Print, s: &[u8]) -> io::Result<()> {
     let mut at: usize = 0;
     while at < s.len() {
         let end = name_end(s, at);
         let e = entry_at(s, end);
         if e.to <= at {
-            test_support::tell_agrees(b"a pin cut short", false);
-            return;
+            return test_support::tell_agrees(rt, b"a pin cut short", false);
         }
         let start = at + 1;
         let found = agrees(s, e);
-        test_support::tell_agrees(&s[start..end], found.alike);
+        test_support::tell_agrees(rt, &s[start..end], found.alike)?;
         at = e.to;
     }
+    Ok(())
 }
 
 // The files of data/.
-pub fn replay_all() {
-    replay_parts();
-    let mut buf = io::large_buffer();
-    let got = test_support::read_file(b"pins", &mut buf).size;
-    replay_pins(&buf[..got]);
+pub fn replay_all<R: Files + Print>(rt: &R) -> io::Result<()> {
+    replay_parts(rt)?;
+    let mut buf = [0u8; 65536];
+    let got = test_support::read_file(rt, b"pins", &mut buf).size;
+    replay_pins(rt, &buf[..got])
 }

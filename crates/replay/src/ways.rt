@@ -5,14 +5,14 @@ use full_list::Choice;
 use model_file::{Found, ReadAnswer};
 
 // Whether the ways agree on a model, and how many faces were sought each way.
-#[derive(Drop)]
+#[derive(Clone, Copy)]
 pub struct Sought {
     pub alike: bool,
     pub faces: u64,
 }
 
 // What a check answered, and how many faces it sought by each way.
-#[derive(Drop)]
+#[derive(Clone, Copy)]
 struct Outcome {
     refused: u8,
     total: u64,
@@ -94,7 +94,7 @@ fn compared(f: Found, coords: &[f64], kinds: &[u8], ends: &[u32], words: &[u32])
         &mut triples,
     );
     let answers = same_answer(l, n) & same_answer(n, t);
-    let bytes = check::same(&less, &nodes) & check::same(&nodes, &triples);
+    let bytes = (less == nodes) & (nodes == triples);
     Sought {
         alike: answers & bytes & each_way(n, t),
         faces: n.nodes as u64,

@@ -1,10 +1,11 @@
 // For the programs of the gate: files, what stands in their bytes, and what is printed.
 #![tactic(auto)]
 
-ghost use Rattle.std.specs.Prelude.{◌≡◌, ◌+◌, ◌*◌, ◌^◌, ◌<◌, ◌≤◌, length};
-ghost use Rattle.io.specs.Counts.{IsPrefixLen};
+ghost use Rattle.std.specs.Prelude.{◌≡◌, ◌+◌, ◌*◌, ◌^◌, ◌<◌, ◌≤◌, length, take};
 
-use libc::STDOUT_FILENO;
+use std::io::Read;
+use std::rt::Files;
+use std::{fs, io, str};
 
 // ---- files
 
@@ -15,19 +16,41 @@ pub struct File {
     pub size: usize,
 }
 
-// Reads the file of that name to the front of buf, if there is one.
-pub fn read_file(name: &[u8], buf: &mut [u8]) -> File
-    ensures { IsPrefixLen result.size buf.new }
+fn not_there() -> File
+    ensures { result.size ≡ 0 }
 {
-    let fd = os::open_read(name);
-    if fd < 0 {
-        return File {
-            there: false,
-            size: 0,
-        };
+    File {
+        there: false,
+        size: 0,
     }
-    let size = io::read_full(fd, buf);
-    libc::close(fd);
+}
+
+// Reads to the front of buf until it is full, the input ends or a read fails.
+fn read_full<R: Read>(input: &mut R, buf: &mut [u8]) -> usize
+    ensures { (result ≤ length buf.new) × (result ≡ length (take result buf.new)) }
+{
+    let mut done = 0;
+    while done < buf.len() {
+        let n = input.read(&mut buf[done..]).unwrap_or(0);
+        if n == 0 {
+            break;
+        }
+        done += n;
+    }
+    done
+}
+
+// Reads the file of that name to the front of buf, if there is one.
+pub fn read_file<R: Files>(rt: &R, name: &[u8], buf: &mut [u8]) -> File
+    ensures { (result.size ≤ length buf.new) × (result.size ≡ length (take result.size buf.new)) }
+{
+    let Ok(path) = str::from_utf8(name) else {
+        return not_there();
+    };
+    let Ok(mut file) = fs::open(rt, path) else {
+        return not_there();
+    };
+    let size = read_full(&mut file, buf);
     File { there: true, size }
 }
 
@@ -71,29 +94,29 @@ pub fn read_words(s: &[u8], from: usize, words: &mut [u32], n: usize)
 
 // ---- lines
 
-pub fn say(text: &[u8]) {
-    io::write_all(STDOUT_FILENO, text);
+pub fn say(rt: &impl Print, text: &[u8]) -> io::Result<()> {
+    rt.write_all(text)
 }
 
-pub fn say_number(text: &[u8], n: u64) {
-    io::write_all(STDOUT_FILENO, text);
-    io::print_decimal(STDOUT_FILENO, n);
+pub fn say_number(rt: &impl Print, text: &[u8], n: u64) -> io::Result<()> {
+    rt.write_all(text)?;
+    print!(rt; "{n}")
 }
 
 // A line: a name and a number.
-pub fn tell(name: &[u8], n: u64) {
-    say(name);
-    say_number(b" ", n);
-    say(b"\n");
+pub fn tell(rt: &impl Print, name: &[u8], n: u64) -> io::Result<()> {
+    say(rt, name)?;
+    say_number(rt, b" ", n)?;
+    say(rt, b"\n")
 }
 
 // A line: a name, and whether what it stands for agrees.
-pub fn tell_agrees(name: &[u8], agrees: bool) {
-    say(name);
+pub fn tell_agrees(rt: &impl Print, name: &[u8], agrees: bool) -> io::Result<()> {
+    say(rt, name)?;
     if agrees {
-        say(b" agrees\n");
+        say(rt, b" agrees\n")
     } else {
-        say(b" differs\n");
+        say(rt, b" differs\n")
     }
 }
 
