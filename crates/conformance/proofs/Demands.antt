@@ -1,16 +1,13 @@
 -- The demands, for the check itself: over `Checking`, which its promise has for every way, and over nothing else. The rest of demand 3 is in findings/proofs/Demand3.
 use Prim.Native.Nat.{ℕ, ◌<◌}
 use mathlib.Core.Path.{◌≡◌, sym, ap, ◌∙◌}
-use mathlib.Core.Logic.{◌≢◌, ◌⊎◌, inl, inr}
-use mathlib.Core.Bool.{true, false}
+use mathlib.Core.Logic.{◌≢◌}
+use mathlib.Core.Bool.{true}
 use mathlib.Core.List.{List, ◌++◌}
-use native.Mathlib.Omega.{arith}
-use borrow.Author.Tests.{eqb-true, eqb-false}
-use lib.Dec.{eqb}
+use borrow.Author.Tests.{eqb-false}
 use lib.ListN.{length, get_or, drop, replicate, length-replicate}
 use Rattle.laws.specs.Lists.{keep}
-use Rattle.laws.specs.Refusals.{refused, done, refusal, answer}
-use Rattle.laws.proofs.Tests.{tested}
+use Rattle.laws.specs.Refusals.{refusal}
 use Rattle.laws.proofs.Tables.{answered_refused, answered_done}
 use Rattle.mesh.specs.Model.{Model, contains, TOPOLOGY, cells_of}
 use Rattle.mesh.specs.Acceptance.{work_needed, check_table}

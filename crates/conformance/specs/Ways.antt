@@ -1,5 +1,5 @@
 -- The check by either way: how many faces are sought by it. What is found is the same.
-use Rattle.std.specs.Prelude.{ℕ, Bool, cond, ◌&&◌, List, ◌≡◌, eqb, length}
+use Rattle.std.specs.Prelude.{ℕ, cond, ◌&&◌, List, ◌≡◌, eqb, length}
 use Rattle.mesh.specs.Model.{Model, contains, TOPOLOGY}
 use Rattle.mesh.specs.Acceptance.{faces_in}
 use Rattle.findings.specs.Check.{check_refusal, Checking}

@@ -14,7 +14,7 @@ use lib.ListN.{length, take, drop, replicate, length-take, take-append-drop}
 use lib.Seq.{take_at}
 use Rattle.laws.specs.Limits.{program_records, program_work}
 use Rattle.laws.specs.Lists.{each}
-use Rattle.laws.specs.Refusals.{refused, done, refusal, answer, filled}
+use Rattle.laws.specs.Refusals.{refusal, filled}
 use Rattle.laws.proofs.Tables.{refusal_first, answered_done, answered_refused}
 use Rattle.laws.proofs.Tests.{tested}
 use Rattle.mesh.specs.Model.{Model, model_of}
