@@ -17,10 +17,15 @@ with open(os.path.join(HERE, "port_names.tsv"), encoding="utf-8") as f:
     TABLE = dict(line.rstrip("\n").split("\t") for line in f if line.strip())
 
 
-def code(text):
-    """The text with each whole name of the table turned; a module in a path stays."""
+PLAIN = re.compile(r"[a-z_0-9]+")
+
+
+def code(text, plain=True):
+    """The text with each whole name of the table turned; a module in a path stays, and without plain what a function of src/ may be called."""
 
     def one(m):
+        if not plain and PLAIN.fullmatch(m[0]):
+            return m[0]
         path = text[m.end() : m.end() + 1] == "." and text[m.end() + 1 : m.end() + 2] not in (" ", "\n", "{", "") and text[max(0, m.start() - 1) : m.start()] == "."
         if path and re.search(r"Rattle\.[\w.+\-]*\.$", text[: m.start()][-200:]):
             return m[0]
@@ -35,18 +40,18 @@ def prose(text):
     return WORD.sub(lambda m: TABLE[m[0]] if m[0] in TABLE and re.search("[a-z][A-Z]", m[0]) else m[0], text)
 
 
-def lines(text, comment):
+def lines(text, comment, plain=True):
     """Code line by line, with what stands behind the comment's sign as prose."""
     out = []
     for line in text.split("\n"):
         m = re.search(r"(^|\s)" + comment, line)
         at = m.start() if m else len(line)
-        out.append(code(line[:at]) + prose(line[at:]))
+        out.append(code(line[:at], plain) + prose(line[at:]))
     return "\n".join(out)
 
 
 def rust(text):
-    return re.sub(r'("(?:\\.|[^"\\\n])*")|([^"]+)', lambda m: m[1] or lines(m[2], "//"), text)
+    return re.sub(r'("(?:\\.|[^"\\\n])*")|([^"]+)', lambda m: m[1] or lines(m[2], "//", False), text)
 
 
 def edit(text):

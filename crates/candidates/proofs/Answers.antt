@@ -77,7 +77,11 @@ module _ (m : Model) (f : ℕ) (work : List ℕ) where
 
 -- "alike whether pairs are sought by common nodes or by node triples": on the same model, face and lent memory either way gives the same answer and leaves the same
 pub ways_alike : (m : Model) (f : ℕ) (found a b work v w : List ℕ) (r s : SoughtFace) → Seeking true m f found a work v r → Seeking false m f found b work w s → (r.answer ≡ s.answer) × (a ≡ b) × (v ≡ w)
-ways_alike m f found a b work v w r s p q = (same_told r.answer s.answer (p.answered ∙ sym q.answered), p.found_is ∙ sym q.found_is, p.work_is ∙ sym q.work_is)
+ways_alike m f found a b work v w r s p q = (
+  same_told r.answer s.answer (p.answered ∙ sym q.answered),
+  p.found_is ∙ sym q.found_is,
+  p.work_is ∙ sym q.work_is,
+)
   where
     same_told : (x y : Counted) → count_told x ≡ count_told y → x ≡ y
     same_told (Refused i) (Refused j) e = cc
@@ -88,4 +92,8 @@ ways_alike m f found a b work v w r s p q = (same_told r.answer s.answer (p.answ
 -- and where nothing refuses, what the code has found are the definition's candidates, as many as fit, and their number, by the one search that was asked for
 pub candidates_sought : (by : Bool) (m : Model) (f : ℕ) (found found' work work' : List ℕ) (r : SoughtFace) → model_refusal m ≡ 0 → work_needed m ≤ length work → f < length (faces_in m) → Seeking by m f found found' work work' r
     → (count_told r.answer ≡ done (length (candidates_of m f))) × (found' ≡ take (length found) (candidates_of m f) ++ drop (length (take (length found) (candidates_of m f))) found) × (r.tally ≡ tally_of by 1)
-candidates_sought by m f found found' work work' r ok h k p = let e = row_none m f work ok h k in (p.answered ∙ rw e, p.found_is ∙ rw e, p.sought ∙ rw e)
+candidates_sought by m f found found' work work' r ok h k p = let e = row_none m f work ok h k in (
+  p.answered ∙ rw e,
+  p.found_is ∙ rw e,
+  p.sought ∙ rw e,
+)

@@ -1,7 +1,7 @@
 -- What the check answers and keeps, by its promise.
 use Prim.Native.Nat.{ℕ, ◌*◌, ◌/◌, min, ◌≤◌, ◌<◌}
 use mathlib.Core.Path.{◌≡◌, refl, sym, ap, ap₂, ◌∙◌}
-use mathlib.Core.Logic.{◌⊎◌, inl, inr, ◌≢◌}
+use mathlib.Core.Logic.{◌≢◌}
 use mathlib.Core.Bool.{Bool, true, false, cond}
 use mathlib.Core.List.{List, [], ◌∷◌, ◌++◌}
 use native.Mathlib.Omega.{arith}
@@ -9,8 +9,7 @@ use lib.Dec.{eqb}
 use lib.ListN.{length, get_or, take, drop, length-append, length-take, length-drop}
 use lib.Seq.{take-length}
 use Rattle.laws.specs.Lists.{each}
-use Rattle.laws.specs.Refusals.{refused, done, refusal, answer}
-use Rattle.laws.proofs.Tests.{tested}
+use Rattle.laws.specs.Refusals.{refusal, answer}
 use Rattle.laws.proofs.ListLaws.{keep-length}
 use Rattle.laws.proofs.Tables.{answered_done}
 use Rattle.mesh.specs.Model.{Model, contains, TOPOLOGY, cells_of}

@@ -1,5 +1,5 @@
 -- The record of a finding settles the finding: two of one full list with the same bytes are the same.
-use Prim.Native.Nat.{ℕ, ◌+◌, ◌<◌}
+use Prim.Native.Nat.{ℕ, ◌<◌}
 use mathlib.Core.Path.{◌≡◌, refl, sym, ap, ◌∙◌}
 use mathlib.Core.List.{List, ◌++◌}
 use lib.ListN.{get_or, take, drop, replicate}

@@ -1,9 +1,9 @@
 -- The nodes of an accepted model's rings are below its number of nodes.
-use Prim.Native.Nat.{ℕ, zero, suc, ◌<◌}
+use Prim.Native.Nat.{ℕ, ◌<◌}
 use mathlib.Core.Path.{◌≡◌, refl, sym, subst}
 use mathlib.Core.Logic.{◌⊎◌, inl, inr, ◌≢◌}
 use mathlib.Core.Bool.{Bool, true, false, ◌||◌}
-use mathlib.Core.List.{List, [], ◌∷◌, ◌++◌}
+use mathlib.Core.List.{List, [], ◌∷◌}
 use native.Mathlib.Omega.{arith}
 use borrow.Author.Tests.{leb-false, eqb-true, eqb-false, ne_eqb, le-ltb}
 use lib.Dec.{leb, ltb, eqb}
@@ -14,7 +14,7 @@ use Rattle.laws.proofs.Bounds.{below_at, below_append, below_left, below_right}
 use Rattle.laws.proofs.ListLaws.{each_append}
 use Rattle.laws.proofs.Tests.{tested, clash, or_none}
 use Rattle.mesh.specs.Model.{Raw, PHED}
-use Rattle.mesh.specs.Rings.{separator, at, tet_rings, hex_rings, wedge_rings, onto, runs, phed_rings, rings_of}
+use Rattle.mesh.specs.Rings.{separator, at, tet_rings, hex_rings, wedge_rings, onto, runs, rings_of}
 use Rattle.mesh.specs.Acceptance.{count_wrong, node_off}
 use Rattle.mesh.specs.Steps.{WellCell, WellCells}
 use Rattle.mesh.proofs.Accepts.{cell_wrong}

@@ -1,18 +1,14 @@
 -- The pass over a PHED's runs: what is counted so far, and what is left.
-use Prim.Native.Nat.{ℕ, zero, suc, ◌+◌, ◌-◌, ◌≤◌, ◌<◌}
-use mathlib.Core.Path.{◌≡◌, refl, sym, ap, ◌∙◌}
-use mathlib.Core.Logic.{◌⊎◌, inl, inr}
+use Prim.Native.Nat.{ℕ, suc, ◌+◌, ◌-◌, ◌≤◌, ◌<◌}
+use mathlib.Core.Path.{◌≡◌, sym, ap, ◌∙◌}
 use mathlib.Core.Bool.{Bool, true, false, cond, ◌||◌, or_assoc, or-false}
 use mathlib.Core.List.{List, [], ◌∷◌, ◌++◌}
 use native.Mathlib.Omega.{arith}
-use borrow.Author.Tests.{leb-false}
 use lib.Dec.{leb, ltb}
 use lib.ListN.{length, take, drop, length-append, drop_of_length-le}
 use lib.Seq.{drop-drop, length-take-le}
 use Rattle.laws.specs.Limits.{ring_limit}
-use Rattle.laws.specs.Lists.{only_if, any, each}
-use Rattle.laws.proofs.Tests.{tested}
-use Rattle.laws.proofs.ListLaws.{each_append}
+use Rattle.laws.specs.Lists.{only_if, any}
 use Rattle.mesh.specs.Rings.{runs, phed_rings}
 use Rattle.mesh.specs.Steps.{lead, ring_total, too_long, RunsCounted}
 use Rattle.mesh.specs.declared.RunTally.{RunTally}

@@ -1,22 +1,20 @@
 -- Runs one by one: the first run of a list of words, and those behind it.
-use Prim.Native.Nat.{ℕ, zero, suc, ◌+◌, ◌≤◌, ◌<◌}
-use mathlib.Core.Path.{◌≡◌, refl, sym, ap, ap₂, ◌∙◌}
+use Prim.Native.Nat.{ℕ, suc, ◌+◌, ◌≤◌, ◌<◌}
+use mathlib.Core.Path.{◌≡◌, refl, ap, ap₂, ◌∙◌}
 use mathlib.Core.Logic.{◌⊎◌, inl, inr, ◌≢◌}
-use mathlib.Core.Bool.{Bool, true, false, cond, ◌||◌, or_assoc, or-false}
+use mathlib.Core.Bool.{Bool, true, false, cond, ◌||◌}
 use mathlib.Core.List.{List, [], ◌∷◌, ◌++◌}
 use native.Mathlib.Numerals.{add-one}
 use native.Mathlib.Omega.{arith}
-use borrow.Author.Tests.{ltb-true, ltb-false, leb-true, eq-eqb, ne_eqb, lt-ltb}
+use borrow.Author.Tests.{ltb-false, eq-eqb, ne_eqb, lt-ltb}
 use lib.Dec.{leb, ltb, eqb, leb-suc-suc}
-use lib.ListN.{length, get_or, take, drop, length-append, drop_of_length-le}
-use lib.Seq.{drop-cons, drop-drop, length-take-le}
+use lib.ListN.{length, get_or, take, drop, drop_of_length-le}
+use lib.Seq.{drop-cons, length-take-le}
 use Rattle.laws.specs.Limits.{ring_limit}
-use Rattle.laws.specs.Lists.{only_if, any, each, keep}
+use Rattle.laws.specs.Lists.{only_if, any, keep}
 use Rattle.laws.proofs.Tests.{tested}
-use Rattle.laws.proofs.ListLaws.{each_append}
-use Rattle.mesh.specs.Rings.{separator, onto, runs, phed_rings}
-use Rattle.mesh.specs.Steps.{lead, ring_total, too_long, RunsCounted}
-use Rattle.mesh.specs.declared.RunTally.{RunTally}
+use Rattle.mesh.specs.Rings.{separator, runs, phed_rings}
+use Rattle.mesh.specs.Steps.{lead, too_long}
 
 -- ---- where a run ends
 

@@ -1,5 +1,5 @@
 -- For internal contracts: runs one by one, and what a pass over cells counts.
-use Rattle.std.specs.Prelude.{ℕ, zero, suc, ◌+◌, ◌≤◌, ◌<◌, Bool, false, cond, List, [], ◌∷◌, ◌≡◌, leb, ltb, eqb, length}
+use Rattle.std.specs.Prelude.{ℕ, suc, ◌+◌, ◌≤◌, ◌<◌, Bool, false, cond, List, [], ◌∷◌, ◌≡◌, ltb, eqb, length}
 use Rattle.laws.specs.Limits.{ring_limit}
 use Rattle.laws.specs.Lists.{any, each}
 use Rattle.laws.specs.Refusals.{refusal}

@@ -1,18 +1,16 @@
 -- Demand 2, over the promises of the two operations: 'reading and writing a model file undo each other'. The theorems stand last.
 use Prim.Native.Nat.{ℕ, ◌*◌, ◌≤◌}
 use mathlib.Core.Path.{◌≡◌, sym, ap, ◌∙◌, subst}
-use mathlib.Core.Logic.{◌⊎◌, inl, inr}
-use mathlib.Core.Bool.{Bool, true, false, cond}
+use mathlib.Core.Bool.{Bool, false, cond}
 use mathlib.Core.List.{List, [], ◌∷◌, ◌++◌}
 use native.Mathlib.Omega.{arith}
-use lib.Dec.{eqb, ltb}
+use lib.Dec.{ltb}
 use lib.ListN.{length, take, drop}
 use lib.Seq.{take_at}
 use lib.Ieee.{Float}
-use borrow.Author.Tests.{eqb-true, le-ltb}
-use Rattle.laws.specs.Refusals.{refused, done, refusal, answer, filled}
+use borrow.Author.Tests.{le-ltb}
+use Rattle.laws.specs.Refusals.{done, refusal, answer, filled}
 use Rattle.laws.proofs.Tables.{Numbered, refusal_second, answered_done}
-use Rattle.laws.proofs.Tests.{tested}
 use Rattle.mesh.specs.Model.{Model, model_of}
 use Rattle.mesh.specs.Acceptance.{model_table, model_refusal}
 use Rattle.mesh.proofs.Accepts.{numbers_model}

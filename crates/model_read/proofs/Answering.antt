@@ -13,7 +13,7 @@ use lib.Ieee.{Float}
 use borrow.Author.Tests.{eqb-true, eqb-false, ltb-false, ne_eqb, not-false}
 use Rattle.laws.specs.Limits.{record_limit}
 use Rattle.laws.specs.Lists.{All}
-use Rattle.laws.specs.Refusals.{refusal, answer, filled, refused, done}
+use Rattle.laws.specs.Refusals.{answer, filled, refused, done}
 use Rattle.laws.proofs.Tables.{refusal_first, refusal_second, unfilled}
 use Rattle.model_file.proofs.Judgement.{records_numbered}
 use Rattle.model_file.proofs.Counts.{ends_as_cells}

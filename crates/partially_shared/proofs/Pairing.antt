@@ -12,7 +12,7 @@ use Rattle.laws.proofs.Tests.{tested, both_ways, and_parts, eqb_self}
 use Rattle.laws.proofs.ListLaws.{each_append, each_ext, each_map, map_each, map-only_if, keep-map, each_agree}
 use Rattle.laws.proofs.Ascending.{asc_ext, asc_keep, asc_up_from, elem-keep, elem-up_from}
 use Rattle.mesh.specs.Rings.{Face, node_set}
-use Rattle.findings.specs.Findings.{Rules, partly, meeting, meets, common as ringCommon, sharing as ringSharing}
+use Rattle.findings.specs.Findings.{Rules, meeting, meets, common as ringCommon, sharing as ringSharing}
 use Rattle.index.specs.Faces.{cell_of, bow_of, nodes_of}
 use Rattle.seek.specs.Candidates.{common, sharing, shares, candidates}
 use Rattle.layout.specs.declared.Layout.{Layout}

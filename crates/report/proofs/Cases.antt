@@ -22,7 +22,7 @@ use Rattle.mesh.specs.Rings.{rings_of, faces_from, number_from, numbered, faces_
 use Rattle.snap.specs.Weld.{before_of, far_of, near_of, welded}
 use Rattle.welding.specs.Used.{used_nodes, welded_used}
 use Rattle.model_file.specs.File.{decode}
-use Rattle.findings.specs.Check.{Totals, totals_of}
+use Rattle.findings.specs.Check.{totals_of}
 use Rattle.findings.specs.Findings.{over_of, over_at, common, sharing, meets, meeting, partly_of, pair_at, kind1, kind2, kind3, kind4, full}
 use Rattle.findings.specs.Records.{fields_of, centre_in, record_bytes, record_of, kept_of, kept_bytes}
 use Rattle.findings.specs.Rules.{repeats_of, bow_of, rules_with, rules_of, cells_in, full_of}

@@ -1,5 +1,5 @@
 -- The program: its output as a function of its input.
-use Rattle.std.specs.Prelude.{ℕ, ◌*◌, Bool, cond, List, [], ◌∷◌, ◌++◌, map, ltb, eqb, length, take}
+use Rattle.std.specs.Prelude.{ℕ, ◌*◌, Bool, cond, List, ◌∷◌, ◌++◌, map, ltb, eqb, length, take}
 use Rattle.laws.specs.Limits.{input_limit, program_records, program_work}
 use Rattle.laws.specs.Refusals.{refusal}
 use Rattle.mesh.specs.Model.{Model}
@@ -7,7 +7,7 @@ use Rattle.mesh.specs.Acceptance.{check_table}
 use Rattle.model_file.specs.File.{file_table, decode}
 use Rattle.findings.specs.Rules.{full_of}
 use Rattle.findings.specs.Records.{fields_of}
-use Rattle.findings.specs.Check.{Totals, totals_of}
+use Rattle.findings.specs.Check.{totals_of}
 use Rattle.report.specs.Text.{refused_line, report_text}
 
 -- 1 if the input is longer than the program reads, then reading's 1 to 3, then checking's 5 to 11

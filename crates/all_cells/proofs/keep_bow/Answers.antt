@@ -1,5 +1,5 @@
 -- `all_cells::keep_bow` meets its contract.
-use Prim.Native.Nat.{◌+◌, ◌-◌}
+use Prim.Native.Nat.{◌+◌}
 use mathlib.Core.List.{List, [], ◌∷◌}
 use mathlib.Core.Path.{sym, ◌∙◌, subst}
 use native.Mathlib.Omega.{arith}
@@ -22,18 +22,26 @@ pub bounds-work-b : goal.bounds-work-b
 bounds-work-b c = omega (arith, tables_in c.args.l c.args.work.now c.requires.faced, c.requires.faced.laid.bows_at, c.requires.c_bound.0)
 
 pub returns-then-work-b-eq0 : goal.returns-then-work-b-eq0
-returns-then-work-b-eq0 c = let a = c.args in
+returns-then-work-b-eq0 c =
+    let a = c.args in
     let w = a.work.now in
     let is = word_is a.l w c.requires.faced (a.l.at.bows + a.c) (omega (arith, c.requires.faced.laid.bows_at, c.requires.c_bound.0)) in
     let none = bow_none a.l (input a.l.at w) a.c (sym is ∙ c.if-work-b-eq0.true) in
-    record { kept_ever = λ R. subst (λ (xs : List Finding). Kept R a.room a.n xs a.findings.now a.findings.now a.n) (sym none) (kept_none R a.room a.n a.findings.now); upper_bound = omega arith }
+    record {
+      kept_ever = λ R. subst (λ (xs : List Finding). Kept R a.room a.n xs a.findings.now a.findings.now a.n) (sym none) (kept_none R a.room a.n a.findings.now);
+      upper_bound = omega arith;
+    }
 
 pub returns : goal.returns
 unfolding of_bits
-returns c = let a = c.args in
+returns c =
+    let a = c.args in
     let w = a.work.now in
     let is = word_is a.l w c.requires.faced (a.l.at.bows + a.c) (omega (arith, c.requires.faced.laid.bows_at, c.requires.c_bound.0)) in
     let one = bow_one a.l (input a.l.at w) a.c (λ z. c.if-work-b-eq0.false (is ∙ z)) in
     let y = c.keep_record in
     let kept : KeptEver a.room a.n (bowtie a.c ∷ []) a.findings.now y.new.findings y.result = λ R. y.ensures R (bowtie a.c) (bow_fields a.c _ c.narrow.ensures) (bow_centre R a.c) in
-    record { kept_ever = λ R. subst (λ (xs : List Finding). Kept R a.room a.n xs a.findings.now y.new.findings y.result) (sym one) (kept R); upper_bound = omega (arith, (kept (plain_rules [] zero64)).count) }
+    record {
+      kept_ever = λ R. subst (λ (xs : List Finding). Kept R a.room a.n xs a.findings.now y.new.findings y.result) (sym one) (kept R);
+      upper_bound = omega (arith, (kept (plain_rules [] zero64)).count);
+    }

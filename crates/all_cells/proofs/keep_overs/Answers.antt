@@ -1,5 +1,4 @@
 -- `all_cells::keep_overs` meets its contract.
-use Prim.Native.Nat.{◌-◌}
 use mathlib.Core.Path.{◌≡◌, refl, ◌∙◌}
 use native.Mathlib.Omega.{arith}
 use Rattle.floats.specs.Floats.{zero64}
@@ -10,16 +9,23 @@ use Rattle.all_cells.proofs.Passing.{pass_next, pass_end, kept_long}
 use Rattle.all_cells.proofs.keep_overs.Goals as goal
 
 pub loop-c-init : goal.loop-c-init
-loop-c-init c = let a = c.args in
+loop-c-init c =
+    let a = c.args in
     (λ tol. kept_none (plain_rules a.coords.now tol) a.room a.n a.findings.now, omega arith, omega arith, refl)
 
 pub keep_overfull-k-requires : goal.keep_overfull-k-requires
-keep_overfull-k-requires c = let o = c.loop-c in
+keep_overfull-k-requires c =
+    let o = c.loop-c in
     let h = c.loop-c-test.true in
-    record { standing = c.requires.standing; c_bound = (h, c.requires.nodes_value.0, c.requires.nodes_value.1); room_in_bounds = (omega (arith, c.requires.room_in_bounds.0, o.invariant.3), omega (arith, o.invariant.1, h, c.requires.standing.spaced.few_cells, c.requires.room_in_bounds.1)) }
+    record {
+      standing = c.requires.standing;
+      c_bound = (h, c.requires.nodes_value.0, c.requires.nodes_value.1);
+      room_in_bounds = (omega (arith, c.requires.room_in_bounds.0, o.invariant.3), omega (arith, o.invariant.1, h, c.requires.standing.spaced.few_cells, c.requires.room_in_bounds.1));
+    }
 
 pub loop-c-preserved : goal.loop-c-preserved
-loop-c-preserved c = let a = c.args in
+loop-c-preserved c =
+    let a = c.args in
     let o = c.loop-c in
     let h = c.loop-c-test.true in
     let y = c.keep_overfull-k in (
@@ -30,7 +36,11 @@ loop-c-preserved c = let a = c.args in
     )
 
 pub returns : goal.returns
-returns c = let a = c.args in
+returns c =
+    let a = c.args in
     let o = c.loop-c in
     let done : o.c ≡ a.l.at.cell_count = omega (arith, o.invariant.2, c.loop-c-test.false) in
-    record { kept_any = λ tol. pass_end (plain_rules a.coords.now tol) a.room a.n o.k (over_cell a.l (input a.l.at a.work.now)) o.c a.l.at.cell_count a.findings.now o.findings done (o.invariant.0 tol); upper_bound = omega (arith, o.invariant.1, done, c.requires.standing.spaced.few_cells) }
+    record {
+      kept_any = λ tol. pass_end (plain_rules a.coords.now tol) a.room a.n o.k (over_cell a.l (input a.l.at a.work.now)) o.c a.l.at.cell_count a.findings.now o.findings done (o.invariant.0 tol);
+      upper_bound = omega (arith, o.invariant.1, done, c.requires.standing.spaced.few_cells);
+    }

@@ -1,5 +1,5 @@
 -- `all_cells::keep_pairs` meets its contract.
-use Prim.Native.Nat.{ℕ, ◌+◌, ◌-◌}
+use Prim.Native.Nat.{ℕ, ◌+◌}
 use mathlib.Core.List.{List}
 use mathlib.Core.Path.{◌≡◌, refl, sym, ap, ◌∙◌, subst}
 use native.Mathlib.Omega.{arith}
@@ -18,7 +18,8 @@ use Rattle.all_cells.proofs.Passing.{pass_next, pass_end, kept_long, still_self,
 use Rattle.all_cells.proofs.keep_pairs.Goals as goal
 
 pub loop-c-init : goal.loop-c-init
-loop-c-init c = let a = c.args in
+loop-c-init c =
+    let a = c.args in
     let none : Tally = record { nodes = 0; triples = 0 } in (
       kept_none (plain_rules a.coords.now a.tol) a.room a.n a.findings.now,
       omega arith,
@@ -30,7 +31,8 @@ loop-c-init c = let a = c.args in
     )
 
 pub keep_partly-k-requires : goal.keep_partly-k-requires
-keep_partly-k-requires c = let o = c.loop-c in
+keep_partly-k-requires c =
+    let o = c.loop-c in
     let h = c.loop-c-test.true in
     let most = tallied_most c.args.by_nodes _ _ o.k.tally o.invariant.6 in
     let few = first_most c.args.l c.args.work.now c.requires.standing.faced o.c (omega (arith, h)) in record {
@@ -45,7 +47,8 @@ keep_partly-k-requires c = let o = c.loop-c in
     }
 
 pub loop-c-preserved : goal.loop-c-preserved
-loop-c-preserved c = let a = c.args in
+loop-c-preserved c =
+    let a = c.args in
     let o = c.loop-c in
     let h = c.loop-c-test.true in
     let y = c.keep_partly-k in
@@ -66,8 +69,14 @@ loop-c-preserved c = let a = c.args in
     )
 
 pub returns : goal.returns
-returns c = let a = c.args in
+returns c =
+    let a = c.args in
     let o = c.loop-c in
     let R = plain_rules a.coords.now a.tol in
     let done : o.c ≡ a.l.at.cell_count = omega (arith, o.invariant.2, c.loop-c-test.false) in
-    let all : first_of a.l (input a.l.at a.work.now) o.c ≡ a.l.at.faces = ap (first_of a.l (input a.l.at a.work.now)) done ∙ c.requires.standing.faced.first_last in record { kept = pass_end R a.room a.n o.k.findings (partly_cell R a.l (input a.l.at a.work.now)) o.c a.l.at.cell_count a.findings.now o.findings done o.invariant.0; findings_bound = (omega (arith, o.invariant.1, done, c.requires.standing.spaced.few_cells), o.invariant.4); tallied = subst (λ (i : ℕ). Tallied a.by_nodes i o.k.tally) all o.invariant.6 }
+    let all : first_of a.l (input a.l.at a.work.now) o.c ≡ a.l.at.faces = ap (first_of a.l (input a.l.at a.work.now)) done ∙ c.requires.standing.faced.first_last in
+    record {
+      kept = pass_end R a.room a.n o.k.findings (partly_cell R a.l (input a.l.at a.work.now)) o.c a.l.at.cell_count a.findings.now o.findings done o.invariant.0;
+      findings_bound = (omega (arith, o.invariant.1, done, c.requires.standing.spaced.few_cells), o.invariant.4);
+      tallied = subst (λ (i : ℕ). Tallied a.by_nodes i o.k.tally) all o.invariant.6;
+    }

@@ -19,8 +19,16 @@ use Rattle.all_cells.proofs.Words.{begins_first, cell_ends, cell_words, cell_lon
 use Rattle.all_cells.proofs.keep_repeats.Goals as goal
 
 pub loop-c-init : goal.loop-c-init
-loop-c-init c = let a = c.args in
-    (λ tol. kept_none (plain_rules a.coords.now tol) a.room a.n a.findings.now, omega arith, omega arith, refl, still_self a.l a.work.now c.requires.standing, refl, begins_first a.kinds.now a.ends.now a.words.now c.requires.nodes_value.1.order)
+loop-c-init c =
+    let a = c.args in (
+      λ tol. kept_none (plain_rules a.coords.now tol) a.room a.n a.findings.now,
+      omega arith,
+      omega arith,
+      refl,
+      still_self a.l a.work.now c.requires.standing,
+      refl,
+      begins_first a.kinds.now a.ends.now a.words.now c.requires.nodes_value.1.order,
+    )
 
 pub offset_bounds-ends-c : goal.offset_bounds-ends-c
 offset_bounds-ends-c c = omega (arith, c.loop-c-test.true, c.requires.nodes_value.1.counted, c.requires.nodes_value.1.paired)
@@ -29,7 +37,8 @@ pub bounds-ends-c : goal.bounds-ends-c
 bounds-ends-c c = omega (arith, c.loop-c-test.true, c.requires.nodes_value.1.counted, c.requires.nodes_value.1.paired)
 
 pub offset_bounds-words-from : goal.offset_bounds-words-from
-offset_bounds-words-from c = let a = c.args in
+offset_bounds-words-from c =
+    let a = c.args in
     let q = c.requires.nodes_value.1 in
     let o = c.loop-c in
     let h = c.loop-c-test.true in
@@ -39,7 +48,8 @@ offset_bounds-words-from c = let a = c.args in
     omega (arith, ends.0, ends.1)
 
 pub slice_bounds-keep_repeated-count : goal.slice_bounds-keep_repeated-count
-slice_bounds-keep_repeated-count c = let a = c.args in
+slice_bounds-keep_repeated-count c =
+    let a = c.args in
     let q = c.requires.nodes_value.1 in
     let o = c.loop-c in
     let h = c.loop-c-test.true in
@@ -49,7 +59,8 @@ slice_bounds-keep_repeated-count c = let a = c.args in
     omega (arith, ends.0, ends.1)
 
 pub slice_bounds-keep_repeated-start : goal.slice_bounds-keep_repeated-start
-slice_bounds-keep_repeated-start c = let a = c.args in
+slice_bounds-keep_repeated-start c =
+    let a = c.args in
     let q = c.requires.nodes_value.1 in
     let o = c.loop-c in
     let h = c.loop-c-test.true in
@@ -59,7 +70,8 @@ slice_bounds-keep_repeated-start c = let a = c.args in
     omega (arith, ends.0, ends.1)
 
 pub slice_bounds-keep_repeated-end : goal.slice_bounds-keep_repeated-end
-slice_bounds-keep_repeated-end c = let a = c.args in
+slice_bounds-keep_repeated-end c =
+    let a = c.args in
     let q = c.requires.nodes_value.1 in
     let o = c.loop-c in
     let h = c.loop-c-test.true in
@@ -69,7 +81,8 @@ slice_bounds-keep_repeated-end c = let a = c.args in
     omega (arith, ends.0, ends.1)
 
 pub keep_repeated-k-requires : goal.keep_repeated-k-requires
-keep_repeated-k-requires c = let a = c.args in
+keep_repeated-k-requires c =
+    let a = c.args in
     let q = c.requires.nodes_value.1 in
     let o = c.loop-c in
     let h = c.loop-c-test.true in
@@ -77,7 +90,12 @@ keep_repeated-k-requires c = let a = c.args in
     let more : o.c < length a.kinds.now = omega (arith, h, q.counted) in
     let ends = cell_ends a.kinds.now a.ends.now a.words.now o.from o.c o.invariant.6 more q.paired y.result y.ensures.0 in
     let is = cell_words a.kinds.now a.ends.now a.words.now o.from o.c o.invariant.6 more q.paired y.result y.ensures.0 in
-    let long = cell_long a.kinds.now a.ends.now a.words.now o.from o.c o.invariant.6 more q.paired y.result y.ensures.0 in record { standing = o.invariant.4.standing; c_bound = (h, c.requires.nodes_value.0, omega (arith, long, ends.1, q.words), subst (λ (ws : List ℕ). AllBelow a.l.at.nodes (nodes_in ws)) (sym is) (q.known o.c more)); room_in_bounds = (omega (arith, c.requires.room_in_bounds.0, o.invariant.3), omega (arith, o.invariant.1, h, c.requires.standing.spaced.few_cells, c.requires.room_in_bounds.1)) }
+    let long = cell_long a.kinds.now a.ends.now a.words.now o.from o.c o.invariant.6 more q.paired y.result y.ensures.0 in
+    record {
+      standing = o.invariant.4.standing;
+      c_bound = (h, c.requires.nodes_value.0, omega (arith, long, ends.1, q.words), subst (λ (ws : List ℕ). AllBelow a.l.at.nodes (nodes_in ws)) (sym is) (q.known o.c more));
+      room_in_bounds = (omega (arith, c.requires.room_in_bounds.0, o.invariant.3), omega (arith, o.invariant.1, h, c.requires.standing.spaced.few_cells, c.requires.room_in_bounds.1));
+    }
 
 pub overflow_add-c : goal.overflow_add-c
 overflow_add-c c = omega (arith, c.loop-c-test.true, c.requires.standing.spaced.few_cells)
@@ -86,7 +104,8 @@ pub loop-c-smaller : goal.loop-c-smaller
 loop-c-smaller c = omega (arith, c.loop-c-test.true)
 
 pub loop-c-preserved : goal.loop-c-preserved
-loop-c-preserved c = let a = c.args in
+loop-c-preserved c =
+    let a = c.args in
     let q = c.requires.nodes_value.1 in
     let o = c.loop-c in
     let h = c.loop-c-test.true in
@@ -111,7 +130,11 @@ loop-c-preserved c = let a = c.args in
     )
 
 pub returns : goal.returns
-returns c = let a = c.args in
+returns c =
+    let a = c.args in
     let o = c.loop-c in
     let done : o.c ≡ a.l.at.cell_count = omega (arith, o.invariant.2, c.loop-c-test.false) in
-    record { kept_any = λ tol. pass_end (plain_rules a.coords.now tol) a.room a.n o.k (repeat_in a.l (input a.l.at a.work.now) a.kinds.now a.ends.now a.words.now) o.c a.l.at.cell_count a.findings.now o.findings done (o.invariant.0 tol); upper_bound = (omega (arith, o.invariant.1, done, c.requires.standing.spaced.few_cells), o.invariant.4) }
+    record {
+      kept_any = λ tol. pass_end (plain_rules a.coords.now tol) a.room a.n o.k (repeat_in a.l (input a.l.at a.work.now) a.kinds.now a.ends.now a.words.now) o.c a.l.at.cell_count a.findings.now o.findings done (o.invariant.0 tol);
+      upper_bound = (omega (arith, o.invariant.1, done, c.requires.standing.spaced.few_cells), o.invariant.4);
+    }

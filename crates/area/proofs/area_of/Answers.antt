@@ -34,7 +34,8 @@ module _ (tol : Float) (coords : List Float) (nodes : List ℕ) where
   judged o eps e x t d = record { is = e ∙ rw (d, x) (apart eps (away o) (rw x at t)) }
 
 pub returns-then-nodes-lt3 : goal.returns-then-nodes-lt3
-returns-then-nodes-lt3 c = let a = c.args in few a.tol a.coords.now a.nodes.now c.if-nodes-lt3.true
+returns-then-nodes-lt3 c =
+    let a = c.args in few a.tol a.coords.now a.nodes.now c.if-nodes-lt3.true
 
 pub point3-o-requires : goal.point3-o-requires
 point3-o-requires c = c.requires 0 (omega arith)

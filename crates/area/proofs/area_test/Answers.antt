@@ -13,26 +13,30 @@ use Rattle.area.proofs.area_test.Goals as goal
 
 pub returns-then-count_off : goal.returns-then-count_off
 unfolding area_answer
-returns-then-count_off c = let a = c.args in
+returns-then-count_off c =
+    let a = c.args in
     row_count (count_off (length a.coords.now)) (ltb 64 (length a.nodes.now)) (tolerance_off a.tol) (coordinates_off a.coords.now) (list_off (length a.coords.now / 3) a.nodes.now) (area_of a.tol (points_of a.coords.now a.nodes.now))
     (sym c.count_off.ensures ∙ c.if-count_off.true)
 
 pub returns-then-nodes-gt64 : goal.returns-then-nodes-gt64
 unfolding area_answer
-returns-then-nodes-gt64 c = let a = c.args in
+returns-then-nodes-gt64 c =
+    let a = c.args in
     row_length (count_off (length a.coords.now)) (ltb 64 (length a.nodes.now)) (tolerance_off a.tol) (coordinates_off a.coords.now) (list_off (length a.coords.now / 3) a.nodes.now) (area_of a.tol (points_of a.coords.now a.nodes.now))
     (sym c.count_off.ensures ∙ c.if-count_off.false) (lt-ltb 64 (length a.nodes.now) c.if-nodes-gt64.true)
 
 pub returns-then-tolerance_off : goal.returns-then-tolerance_off
 unfolding area_answer
-returns-then-tolerance_off c = let a = c.args in
+returns-then-tolerance_off c =
+    let a = c.args in
     row_tolerance (count_off (length a.coords.now)) (ltb 64 (length a.nodes.now)) (tolerance_off a.tol) (coordinates_off a.coords.now) (list_off (length a.coords.now / 3) a.nodes.now) (area_of a.tol (points_of a.coords.now a.nodes.now))
     (sym c.count_off.ensures ∙ c.if-count_off.false) (le-ltb 64 (length a.nodes.now) c.if-nodes-gt64.false)
     (sym c.tolerance_off.ensures ∙ c.if-tolerance_off.true)
 
 pub returns-then-coordinates_off : goal.returns-then-coordinates_off
 unfolding area_answer
-returns-then-coordinates_off c = let a = c.args in
+returns-then-coordinates_off c =
+    let a = c.args in
     row_coordinate (count_off (length a.coords.now)) (ltb 64 (length a.nodes.now)) (tolerance_off a.tol) (coordinates_off a.coords.now) (list_off (length a.coords.now / 3) a.nodes.now) (area_of a.tol (points_of a.coords.now a.nodes.now))
     (sym c.count_off.ensures ∙ c.if-count_off.false) (le-ltb 64 (length a.nodes.now) c.if-nodes-gt64.false)
     (sym c.tolerance_off.ensures ∙ c.if-tolerance_off.false)
@@ -40,7 +44,8 @@ returns-then-coordinates_off c = let a = c.args in
 
 pub returns-then-list_off : goal.returns-then-list_off
 unfolding area_answer
-returns-then-list_off c = let a = c.args in
+returns-then-list_off c =
+    let a = c.args in
     row_list (count_off (length a.coords.now)) (ltb 64 (length a.nodes.now)) (tolerance_off a.tol) (coordinates_off a.coords.now) (list_off (length a.coords.now / 3) a.nodes.now) (area_of a.tol (points_of a.coords.now a.nodes.now))
     (sym c.count_off.ensures ∙ c.if-count_off.false) (le-ltb 64 (length a.nodes.now) c.if-nodes-gt64.false)
     (sym c.tolerance_off.ensures ∙ c.if-tolerance_off.false)
@@ -48,11 +53,13 @@ returns-then-list_off c = let a = c.args in
     (sym c.list_off.ensures ∙ c.if-list_off.true)
 
 pub area_of-requires : goal.area_of-requires
-area_of-requires c = let a = c.args in in_nodes a.coords.now a.nodes.now (sym c.list_off.ensures ∙ c.if-list_off.false)
+area_of-requires c =
+    let a = c.args in in_nodes a.coords.now a.nodes.now (sym c.list_off.ensures ∙ c.if-list_off.false)
 
 pub returns : goal.returns
 unfolding area_answer
-returns c = let a = c.args in
+returns c =
+    let a = c.args in
     ap done c.area_of.ensures
     ∙ row_none (count_off (length a.coords.now)) (ltb 64 (length a.nodes.now)) (tolerance_off a.tol) (coordinates_off a.coords.now) (list_off (length a.coords.now / 3) a.nodes.now) (area_of a.tol (points_of a.coords.now a.nodes.now))
     (sym c.count_off.ensures ∙ c.if-count_off.false) (le-ltb 64 (length a.nodes.now) c.if-nodes-gt64.false)

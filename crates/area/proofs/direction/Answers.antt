@@ -14,23 +14,25 @@ pub loop-i-init : goal.loop-i-init
 loop-i-init c = (search rules, refl)
 
 pub returns-then-longer : goal.returns-then-longer
-returns-then-longer c = let at = c in
-    let a = at.args in
-    let ds = away_from a.o (points_of a.coords.now (drop (at.loop-i.i + 1) a.nodes.now)) in
-    let h : at.loop-i.i < length a.nodes.now = omega arith in
-    let e = away_next a.o a.coords.now a.nodes.now at.loop-i.i h in
-    sym (ap (direction_of a.eps) (rw (← c.away-d.ensures) at e) ∙ direction_found a.eps c.away-d.result ds (sym c.longer.ensures ∙ c.if-longer.true)) ∙ at.loop-i.invariant.1
+returns-then-longer c =
+    let a = c.args in
+    let ds = away_from a.o (points_of a.coords.now (drop (c.loop-i.i + 1) a.nodes.now)) in
+    let h : c.loop-i.i < length a.nodes.now = omega arith in
+    let e = away_next a.o a.coords.now a.nodes.now c.loop-i.i h in
+    sym (ap (direction_of a.eps) (rw (← c.away-d.ensures) at e) ∙ direction_found a.eps c.away-d.result ds (sym c.longer.ensures ∙ c.if-longer.true)) ∙ c.loop-i.invariant.1
 
 pub loop-i-preserved : goal.loop-i-preserved
-loop-i-preserved c = let at = c in
-    let a = at.args in
-    let ds = away_from a.o (points_of a.coords.now (drop (at.loop-i.i + 1) a.nodes.now)) in
-    let h : at.loop-i.i < length a.nodes.now = omega arith in
-    let e = away_next a.o a.coords.now a.nodes.now at.loop-i.i h in
-    (search rules, sym (ap (direction_of a.eps) (rw (← c.away-d.ensures) at e) ∙ direction_next a.eps c.away-d.result ds (sym c.longer.ensures ∙ c.if-longer.false)) ∙ at.loop-i.invariant.1)
+loop-i-preserved c =
+    let a = c.args in
+    let ds = away_from a.o (points_of a.coords.now (drop (c.loop-i.i + 1) a.nodes.now)) in
+    let h : c.loop-i.i < length a.nodes.now = omega arith in
+    let e = away_next a.o a.coords.now a.nodes.now c.loop-i.i h in (
+      search rules,
+      sym (ap (direction_of a.eps) (rw (← c.away-d.ensures) at e) ∙ direction_next a.eps c.away-d.result ds (sym c.longer.ensures ∙ c.if-longer.false)) ∙ c.loop-i.invariant.1,
+    )
 
 pub returns : goal.returns
-returns c = let at = c in
-    let a = at.args in
-    let h : length a.nodes.now ≤ at.loop-i.i = omega arith in
-    sym (ap (direction_of a.eps) (away_end a.o a.coords.now a.nodes.now at.loop-i.i h)) ∙ at.loop-i.invariant.1
+returns c =
+    let a = c.args in
+    let h : length a.nodes.now ≤ c.loop-i.i = omega arith in
+    sym (ap (direction_of a.eps) (away_end a.o a.coords.now a.nodes.now c.loop-i.i h)) ∙ c.loop-i.invariant.1

@@ -8,5 +8,6 @@ use Rattle.area.proofs.OneRoot.{extent_root}
 use Rattle.area.proofs.extent.Goals as goal
 
 pub returns : goal.returns
-returns c = let a = c.args in
+returns c =
+    let a = c.args in
     c.sqrt.ensures ∙ ap sqrt c.most.ensures ∙ extent_root (away_from a.o (points_of a.coords.now (drop 1 a.nodes.now)))

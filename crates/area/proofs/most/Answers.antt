@@ -11,13 +11,13 @@ pub loop-i-init : goal.loop-i-init
 loop-i-init c = (search rules, rw zero_bits)
 
 pub loop-i-preserved : goal.loop-i-preserved
-loop-i-preserved c = let at = c in
-    let a = at.args in
-    let h : at.loop-i.i < length a.nodes.now = omega arith in
-    (search rules, rw (c.reach-m.ensures, c.away.ensures) (rw (away_next a.o a.coords.now a.nodes.now at.loop-i.i h) at at.loop-i.invariant.1))
+loop-i-preserved c =
+    let a = c.args in
+    let h : c.loop-i.i < length a.nodes.now = omega arith in
+    (search rules, rw (c.reach-m.ensures, c.away.ensures) (rw (away_next a.o a.coords.now a.nodes.now c.loop-i.i h) at c.loop-i.invariant.1))
 
 pub returns : goal.returns
-returns c = let at = c in
-    let a = at.args in
-    let h : length a.nodes.now ≤ at.loop-i.i = omega arith in
-    rw (away_end a.o a.coords.now a.nodes.now at.loop-i.i h) at at.loop-i.invariant.1
+returns c =
+    let a = c.args in
+    let h : length a.nodes.now ≤ c.loop-i.i = omega arith in
+    rw (away_end a.o a.coords.now a.nodes.now c.loop-i.i h) at c.loop-i.invariant.1

@@ -28,21 +28,25 @@ one_more base s t k i h g b =
     ∙ ap₂ (λ (x y : ℕ). eqb x y && eql (drop (i + 1) (region s k base)) (drop (i + 1) (region t k base))) (get_or-region s k base i 0 b) (get_or-region t k base i 0 b)
 
 pub returns-then-j-k : goal.returns-then-j-k
-returns-then-j-k c = let a = c.args in
+returns-then-j-k c =
+    let a = c.args in
     let q = c.requires in
     sym (unlike (region a.s a.j a.base.now) (region a.t a.k a.base.now) (λ e. c.if-j-k.true (sym (length-region a.s a.j a.base.now q.0) ∙ e ∙ length-region a.t a.k a.base.now q.1)))
 
 pub loop-i-init : goal.loop-i-init
-loop-i-init c = let a = c.args in
+loop-i-init c =
+    let a = c.args in
     (omega arith, omega (arith, c.if-j-k.false), ap (λ (n : ℕ). eql (region a.s a.j a.base.now) (region a.t n a.base.now)) (sym c.if-j-k.false))
 
 pub returns-then-base-s : goal.returns-then-base-s
-returns-then-base-s c = let a = c.args in
+returns-then-base-s c =
+    let a = c.args in
     let l = c.loop-i in
     sym (l.invariant.2 ∙ one_more a.base.now a.s a.t a.j l.i c.requires.0 l.invariant.1 c.loop-i-test.true ∙ rw (ne_eqb (get_or a.base.now (a.s + l.i) 0) (get_or a.base.now (a.t + l.i) 0) c.if-base-s.true))
 
 pub loop-i-preserved : goal.loop-i-preserved
-loop-i-preserved c = let a = c.args in
+loop-i-preserved c =
+    let a = c.args in
     let l = c.loop-i in (
       omega arith,
       l.invariant.1,
@@ -51,7 +55,8 @@ loop-i-preserved c = let a = c.args in
     )
 
 pub returns : goal.returns
-returns c = let a = c.args in
+returns c =
+    let a = c.args in
     let l = c.loop-i in
     sym (l.invariant.2
     ∙ ap₂ eql (drop_of_length-le (region a.s a.j a.base.now) {i = l.i} (omega (arith, length-region a.s a.j a.base.now c.requires.0)))

@@ -25,12 +25,14 @@ pub loop-i-init : goal.loop-i-init
 loop-i-init c = (search rules, refl)
 
 pub returns-then-base-s : goal.returns-then-base-s
-returns-then-base-s c = let a = c.args in
+returns-then-base-s c =
+    let a = c.args in
     let l = c.loop-i in
     sym (l.invariant.1 ∙ one_more a.base.now a.s a.k a.v l.i c.requires c.loop-i-test.true ∙ rw (c.if-base-s.true, eqb_self a.v))
 
 pub loop-i-preserved : goal.loop-i-preserved
-loop-i-preserved c = let a = c.args in
+loop-i-preserved c =
+    let a = c.args in
     let l = c.loop-i in (
       omega arith,
       l.invariant.1 ∙ one_more a.base.now a.s a.k a.v l.i c.requires c.loop-i-test.true
@@ -38,6 +40,7 @@ loop-i-preserved c = let a = c.args in
     )
 
 pub returns : goal.returns
-returns c = let a = c.args in
+returns c =
+    let a = c.args in
     let l = c.loop-i in
     sym (l.invariant.1 ∙ ap (elem a.v) (drop_of_length-le (region a.s a.k a.base.now) {i = l.i} (omega (arith, length-region a.s a.k a.base.now c.requires))))

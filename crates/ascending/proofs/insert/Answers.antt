@@ -36,7 +36,8 @@ overflow_add-q c =
     omega (arith, seated, c.requires.0, c.well_formed.0)
 
 pub returns-then-work-q : goal.returns-then-work-q
-returns-then-work-q c = let a = c.args in
+returns-then-work-q c =
+    let a = c.args in
     let w = a.work.now in
     let l = region a.o a.n w in
     let long = length-region a.o a.n w c.requires.0 in
@@ -84,5 +85,5 @@ returns c =
     let longer_by_one = longer a.work.now a.o a.n a.v c.seat-p.result c.requires.0 c.seat-p.ensures fresh in
     let s = c.seat-p in (
       omega (arith, longer_by_one),
-      c.shift.ensures ∙ moved_up a.work.now a.o a.n a.v s.result c.requires.0 s.ensures (fresh),
+      c.shift.ensures ∙ moved_up a.work.now a.o a.n a.v s.result c.requires.0 s.ensures fresh,
     )

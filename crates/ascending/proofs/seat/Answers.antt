@@ -8,11 +8,13 @@ use Rattle.ascending.proofs.Adding.{seat_behind, seat_before}
 use Rattle.ascending.proofs.seat.Goals as goal
 
 pub loop-lo-init : goal.loop-lo-init
-loop-lo-init c = let a = c.args in
+loop-lo-init c =
+    let a = c.args in
     omega (arith, seat_le a.v (region a.o a.n a.base.now), length-region a.o a.n a.base.now c.requires.0)
 
 pub loop-lo-preserved-then-base-o : goal.loop-lo-preserved-then-base-o
-loop-lo-preserved-then-base-o c = let a = c.args in
+loop-lo-preserved-then-base-o c =
+    let a = c.args in
     let l = c.loop-lo in
     let mid = l.lo + (l.hi - l.lo) / 2 in
     let k : mid < a.n = omega arith in
@@ -21,7 +23,8 @@ loop-lo-preserved-then-base-o c = let a = c.args in
     omega (arith, seat_behind a.v (region a.o a.n a.base.now) mid c.requires.1 (omega arith) (omega (arith, b, c.if-base-o.true)))
 
 pub loop-lo-preserved : goal.loop-lo-preserved
-loop-lo-preserved c = let a = c.args in
+loop-lo-preserved c =
+    let a = c.args in
     let l = c.loop-lo in
     let mid = l.lo + (l.hi - l.lo) / 2 in
     let k : mid < a.n = omega arith in

@@ -16,11 +16,13 @@ pub loop-c-init : goal.loop-c-init
 loop-c-init c = (omega arith, refl, refl, refl)
 
 pub cell_meets-requires : goal.cell_meets-requires
-cell_meets-requires c = let at = c.loop-c in
+cell_meets-requires c =
+    let at = c.loop-c in
     (subst (Ringed c.args.l) (sym at.invariant.2) c.requires.0, c.requires.2, c.loop-c-test.true)
 
 pub loop-c-preserved : goal.loop-c-preserved
-loop-c-preserved c = let a = c.args in
+loop-c-preserved c =
+    let a = c.args in
     let at = c.loop-c in
     let f : ℕ → ℕ = (λ (i : ℕ). bit (cell_bow a.coords.now a.tol a.l (take a.l.at.bows a.work.now) i)) in
     let value = c.mark.ensures ∙ ap bit (c.cell_meets.ensures ∙ ap (λ (t : List ℕ). cell_bow a.coords.now a.tol a.l t at.c) at.invariant.2) in (
@@ -34,7 +36,8 @@ pub shape_of-work : goal.shape_of-work
 shape_of-work c = c.loop-c.invariant.1
 
 pub returns : goal.returns
-returns c = let a = c.args in
+returns c =
+    let a = c.args in
     let at = c.loop-c in
     let f : ℕ → ℕ = (λ (i : ℕ). bit (cell_bow a.coords.now a.tol a.l (take a.l.at.bows a.work.now) i)) in
     let ys = map f (up_from 0 a.l.at.cell_count) in

@@ -11,67 +11,59 @@ pub overflow_sub-n : goal.overflow_sub-n
 overflow_sub-n c =
     let ring : Ring c.args.l c.args.work.now c.args.g c.ring_row-s.result c.ring_row-e.result = let s = c in
     record { ringed = s.requires.0; face = s.requires.2; from = c.ring_row-s.ensures.0; to = c.ring_row-e.ensures.0 } in
-    let lies : (c.ring_row-s.result ≤ c.ring_row-e.result) × (c.args.l.rings + c.ring_row-e.result ≤ length c.args.work.now) = let s = c in
-    (rows_rise (ring), omega (arith, ring_ends (ring), tables_in s.args.l s.args.work.now s.requires.0)) in
+    let lies : (c.ring_row-s.result ≤ c.ring_row-e.result) × (c.args.l.rings + c.ring_row-e.result ≤ length c.args.work.now) = (rows_rise ring, omega (arith, ring_ends ring, tables_in c.args.l c.args.work.now c.requires.0)) in
     omega (arith, lies)
 
 pub offset_bounds-work-start : goal.offset_bounds-work-start
 offset_bounds-work-start c =
     let ring : Ring c.args.l c.args.work.now c.args.g c.ring_row-s.result c.ring_row-e.result = let s = c in
     record { ringed = s.requires.0; face = s.requires.2; from = c.ring_row-s.ensures.0; to = c.ring_row-e.ensures.0 } in
-    let lies : (c.ring_row-s.result ≤ c.ring_row-e.result) × (c.args.l.rings + c.ring_row-e.result ≤ length c.args.work.now) = let s = c in
-    (rows_rise (ring), omega (arith, ring_ends (ring), tables_in s.args.l s.args.work.now s.requires.0)) in
+    let lies : (c.ring_row-s.result ≤ c.ring_row-e.result) × (c.args.l.rings + c.ring_row-e.result ≤ length c.args.work.now) = (rows_rise ring, omega (arith, ring_ends ring, tables_in c.args.l c.args.work.now c.requires.0)) in
     omega (arith, lies)
 
 pub slice_bounds-put_welded-count : goal.slice_bounds-put_welded-count
 slice_bounds-put_welded-count c =
     let ring : Ring c.args.l c.args.work.now c.args.g c.ring_row-s.result c.ring_row-e.result = let s = c in
     record { ringed = s.requires.0; face = s.requires.2; from = c.ring_row-s.ensures.0; to = c.ring_row-e.ensures.0 } in
-    let lies : (c.ring_row-s.result ≤ c.ring_row-e.result) × (c.args.l.rings + c.ring_row-e.result ≤ length c.args.work.now) = let s = c in
-    (rows_rise (ring), omega (arith, ring_ends (ring), tables_in s.args.l s.args.work.now s.requires.0)) in
+    let lies : (c.ring_row-s.result ≤ c.ring_row-e.result) × (c.args.l.rings + c.ring_row-e.result ≤ length c.args.work.now) = (rows_rise ring, omega (arith, ring_ends ring, tables_in c.args.l c.args.work.now c.requires.0)) in
     omega (arith, lies)
 
 pub slice_bounds-put_welded-start : goal.slice_bounds-put_welded-start
 slice_bounds-put_welded-start c =
     let ring : Ring c.args.l c.args.work.now c.args.g c.ring_row-s.result c.ring_row-e.result = let s = c in
     record { ringed = s.requires.0; face = s.requires.2; from = c.ring_row-s.ensures.0; to = c.ring_row-e.ensures.0 } in
-    let lies : (c.ring_row-s.result ≤ c.ring_row-e.result) × (c.args.l.rings + c.ring_row-e.result ≤ length c.args.work.now) = let s = c in
-    (rows_rise (ring), omega (arith, ring_ends (ring), tables_in s.args.l s.args.work.now s.requires.0)) in
+    let lies : (c.ring_row-s.result ≤ c.ring_row-e.result) × (c.args.l.rings + c.ring_row-e.result ≤ length c.args.work.now) = (rows_rise ring, omega (arith, ring_ends ring, tables_in c.args.l c.args.work.now c.requires.0)) in
     omega (arith, lies)
 
 pub slice_bounds-put_welded-end : goal.slice_bounds-put_welded-end
 slice_bounds-put_welded-end c =
     let ring : Ring c.args.l c.args.work.now c.args.g c.ring_row-s.result c.ring_row-e.result = let s = c in
     record { ringed = s.requires.0; face = s.requires.2; from = c.ring_row-s.ensures.0; to = c.ring_row-e.ensures.0 } in
-    let lies : (c.ring_row-s.result ≤ c.ring_row-e.result) × (c.args.l.rings + c.ring_row-e.result ≤ length c.args.work.now) = let s = c in
-    (rows_rise (ring), omega (arith, ring_ends (ring), tables_in s.args.l s.args.work.now s.requires.0)) in
+    let lies : (c.ring_row-s.result ≤ c.ring_row-e.result) × (c.args.l.rings + c.ring_row-e.result ≤ length c.args.work.now) = (rows_rise ring, omega (arith, ring_ends ring, tables_in c.args.l c.args.work.now c.requires.0)) in
     omega (arith, lies)
 
 pub put_welded-requires : goal.put_welded-requires
 put_welded-requires c =
     let ring : Ring c.args.l c.args.work.now c.args.g c.ring_row-s.result c.ring_row-e.result = let s = c in
     record { ringed = s.requires.0; face = s.requires.2; from = c.ring_row-s.ensures.0; to = c.ring_row-e.ensures.0 } in
-    let s = c in
     let r = ring in
-    (part_short r, ring_known r, omega (arith, tables_in s.args.l s.args.work.now s.requires.0, s.requires.0.weld_at))
+    (part_short r, ring_known r, omega (arith, tables_in c.args.l c.args.work.now c.requires.0, c.requires.0.weld_at))
 
 pub slice_bounds-face_self_intersects-end : goal.slice_bounds-face_self_intersects-end
 slice_bounds-face_self_intersects-end c =
     let ring : Ring c.args.l c.args.work.now c.args.g c.ring_row-s.result c.ring_row-e.result = record { ringed = c.requires.0; face = c.requires.2; from = c.ring_row-s.ensures.0; to = c.ring_row-e.ensures.0 } in
-    omega (arith, ring_short (ring))
+    omega (arith, ring_short ring)
 
 pub face_self_intersects-requires : goal.face_self_intersects-requires
 face_self_intersects-requires c =
     let ring : Ring c.args.l c.args.work.now c.args.g c.ring_row-s.result c.ring_row-e.result = let s = c in
     record { ringed = s.requires.0; face = s.requires.2; from = c.ring_row-s.ensures.0; to = c.ring_row-e.ensures.0 } in
-    let s = c in
     let r = ring in
-    asked r s.args.coords.now s.requires.1 _ (loaded r _ _ refl c.put_welded.ensures)
+    asked r c.args.coords.now c.requires.1 _ (loaded r _ _ refl c.put_welded.ensures)
 
 pub returns : goal.returns
 returns c =
     let ring : Ring c.args.l c.args.work.now c.args.g c.ring_row-s.result c.ring_row-e.result = let s = c in
     record { ringed = s.requires.0; face = s.requires.2; from = c.ring_row-s.ensures.0; to = c.ring_row-e.ensures.0 } in
-    let s = c in
     let r = ring in
-    c.face_self_intersects.ensures ∙ answered r s.args.coords.now s.args.tol _ (loaded r _ _ refl c.put_welded.ensures)
+    c.face_self_intersects.ensures ∙ answered r c.args.coords.now c.args.tol _ (loaded r _ _ refl c.put_welded.ensures)

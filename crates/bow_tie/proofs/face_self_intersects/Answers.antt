@@ -17,7 +17,10 @@ pub returns-then-later_meets : goal.returns-then-later_meets
 returns-then-later_meets c = sym (any_found (later_meets c.margin-eps.result (points_of c.args.coords.now c.args.ring.now)) (length c.args.ring.now) c.loop-i.i c.loop-i-test.true (sym c.later_meets.ensures ∙ c.if-later_meets.true)) ∙ c.loop-i.invariant.1
 
 pub loop-i-preserved : goal.loop-i-preserved
-loop-i-preserved c = (search rules, sym (any_skip (later_meets c.margin-eps.result (points_of c.args.coords.now c.args.ring.now)) (length c.args.ring.now) c.loop-i.i c.loop-i-test.true (sym c.later_meets.ensures ∙ c.if-later_meets.false)) ∙ c.loop-i.invariant.1)
+loop-i-preserved c = (
+  search rules,
+  sym (any_skip (later_meets c.margin-eps.result (points_of c.args.coords.now c.args.ring.now)) (length c.args.ring.now) c.loop-i.i c.loop-i-test.true (sym c.later_meets.ensures ∙ c.if-later_meets.false)) ∙ c.loop-i.invariant.1,
+)
 
 pub returns : goal.returns
 returns c = sym (any_end (later_meets c.margin-eps.result (points_of c.args.coords.now c.args.ring.now)) (length c.args.ring.now) c.loop-i.i c.loop-i-test.false) ∙ c.loop-i.invariant.1

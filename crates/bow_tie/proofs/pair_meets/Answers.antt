@@ -4,13 +4,14 @@ use Rattle.bow_tie.proofs.Sought.{neighbours, strangers}
 use Rattle.bow_tie.proofs.pair_meets.Goals as goal
 
 pub returns-then-first_and_last : goal.returns-then-first_and_last
-returns-then-first_and_last c = let a = c.args in
+returns-then-first_and_last c =
+    let a = c.args in
     neighbours a.eps a.coords.now a.ring.now a.i a.j (sym c.first_and_last.ensures ∙ c.if-first_and_last.true)
 
 pub point3-requires : goal.point3-requires
-point3-requires c = let s = c in s.requires.0 s.args.j s.requires.2
+point3-requires c = c.requires.0 c.args.j c.requires.2
 
 pub returns : goal.returns
-returns c = let s = c in
-    let a = s.args in
-    rw (strangers a.eps a.coords.now a.ring.now a.i a.j s.requires.1 s.requires.2 (sym c.first_and_last.ensures ∙ c.if-first_and_last.false), c.segments_intersect3.ensures, c.following_at.ensures, c.point3.ensures, s.requires.3, s.requires.4)
+returns c =
+    let a = c.args in
+    rw (strangers a.eps a.coords.now a.ring.now a.i a.j c.requires.1 c.requires.2 (sym c.first_and_last.ensures ∙ c.if-first_and_last.false), c.segments_intersect3.ensures, c.following_at.ensures, c.point3.ensures, c.requires.3, c.requires.4)

@@ -67,8 +67,10 @@ seek_into-searched-requires c =
     let m : Model = model_of a.coords.now a.kinds.now a.ends.now a.words.now a.tol a.checks.0 0 in
     let ok : model_refusal m ≡ 0 = sym c.accept-t.ensures.refusal ∙ c.if-t-ne0.false in
     let need_is : c.work_needed-need.result ≡ work_needed m = c.work_needed-need.ensures ∙ work_is_lem m c.accept-t.result c.accept-t.ensures c.if-t-ne0.false in
-    let faces_is : c.accept-t.result.faces ≡ length (faces_in m) = c.accept-t.ensures.faces c.if-t-ne0.false in
-    (refl, ((ok, c.accept-t.ensures, omega (arith, need_is, length-take (c.work_needed-need.result - 0) a.work.now, c.if-work-need.false)), omega (arith, faces_is, c.if-t-face.false)))
+    let faces_is : c.accept-t.result.faces ≡ length (faces_in m) = c.accept-t.ensures.faces c.if-t-ne0.false in (
+      refl,
+      ((ok, c.accept-t.ensures, omega (arith, need_is, length-take (c.work_needed-need.result - 0) a.work.now, c.if-work-need.false)), omega (arith, faces_is, c.if-t-face.false)),
+    )
 
 pub returns : goal.returns
 returns c =

@@ -21,8 +21,8 @@ candidates_of-c-requires g c =
     let l = c.build_tables-l.result in
     let s = c.index_faces-s in
     let shows : Shows g.m l (input l.at s.new.work) =
-        subst (λ (m : Model). Shows m l (input l.at s.new.work)) c.requires.0
-        (subst (Shows (model_of c.args.coords.now c.args.kinds.now c.args.ends.now c.args.words.now c.args.tol c.args.checks.0 0) l) (sym s.ensures.work_unchanged) c.build_tables-l.ensures.shows) in
+    subst (λ (m : Model). Shows m l (input l.at s.new.work)) c.requires.0
+    (subst (Shows (model_of c.args.coords.now c.args.kinds.now c.args.ends.now c.args.words.now c.args.tol c.args.checks.0 0) l) (sym s.ensures.work_unchanged) c.build_tables-l.ensures.shows) in
     let low : c.args.face < l.at.faces = omega (arith, c.requires.1.1, faces_shown g.m l (input l.at s.new.work) shows) in
     record {
       ready = (face_ready l s.new.work _ (searches l s.new.work s.ensures.standing.0) low, s.ensures.standing.1);
@@ -34,14 +34,14 @@ slice_bounds-put_words-end g c =
     let l = c.build_tables-l.result in
     let s = c.index_faces-s in
     let shows : Shows g.m l (input l.at s.new.work) =
-        subst (λ (m : Model). Shows m l (input l.at s.new.work)) c.requires.0
-        (subst (Shows (model_of c.args.coords.now c.args.kinds.now c.args.ends.now c.args.words.now c.args.tol c.args.checks.0 0) l) (sym s.ensures.work_unchanged) c.build_tables-l.ensures.shows) in
+    subst (λ (m : Model). Shows m l (input l.at s.new.work)) c.requires.0
+    (subst (Shows (model_of c.args.coords.now c.args.kinds.now c.args.ends.now c.args.words.now c.args.tol c.args.checks.0 0) l) (sym s.ensures.work_unchanged) c.build_tables-l.ensures.shows) in
     let low : c.args.face < l.at.faces = omega (arith, c.requires.1.1, faces_shown g.m l (input l.at s.new.work) shows) in
     let q = s.ensures.standing.0.spaced in
     let n = number_low g.m l s.new.work c.candidates_of-c.new.work c.args.face (found_in c.candidates_of-c.result) s.ensures.standing.0 shows low c.candidates_of-c.ensures.sought_by.sought in
     let e = c.count-n.ensures in
     let room : l.at.found + c.lesser-k.result ≤ length c.candidates_of-c.new.work =
-        omega (arith, n, e, c.lesser-k.ensures, c.candidates_of-c.auto.work, q.marks_at, q.others_at, q.last_at, q.pairs_at, q.spare_at, q.ends) in
+    omega (arith, n, e, c.lesser-k.ensures, c.candidates_of-c.auto.work, q.marks_at, q.others_at, q.last_at, q.pairs_at, q.spare_at, q.ends) in
     omega (arith, room)
 
 pub returns : goal.returns
@@ -49,8 +49,8 @@ returns g c =
     let l = c.build_tables-l.result in
     let s = c.index_faces-s in
     let shows : Shows g.m l (input l.at s.new.work) =
-        subst (λ (m : Model). Shows m l (input l.at s.new.work)) c.requires.0
-        (subst (Shows (model_of c.args.coords.now c.args.kinds.now c.args.ends.now c.args.words.now c.args.tol c.args.checks.0 0) l) (sym s.ensures.work_unchanged) c.build_tables-l.ensures.shows) in
+    subst (λ (m : Model). Shows m l (input l.at s.new.work)) c.requires.0
+    (subst (Shows (model_of c.args.coords.now c.args.kinds.now c.args.ends.now c.args.words.now c.args.tol c.args.checks.0 0) l) (sym s.ensures.work_unchanged) c.build_tables-l.ensures.shows) in
     let low : c.args.face < l.at.faces = omega (arith, c.requires.1.1, faces_shown g.m l (input l.at s.new.work) shows) in
     let v = c.candidates_of-c.new.work in
     let st = s.ensures.standing.0 in

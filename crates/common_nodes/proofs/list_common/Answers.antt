@@ -11,7 +11,8 @@ use Rattle.seek.proofs.Read.{set-fits, set_there}
 use Rattle.common_nodes.proofs.list_common.Goals as goal
 
 pub pick-requires : goal.pick-requires
-pick-requires c = let a = c.args in
+pick-requires c =
+    let a = c.args in
     let ix = c.requires.indexed in
     let f = set-fits a.at a.base.now ix a.f c.requires.f_lt_faces.0 in
     let g = set-fits a.at a.base.now ix a.g c.requires.f_lt_faces.1 in (
@@ -21,7 +22,8 @@ pick-requires c = let a = c.args in
     )
 
 pub returns : goal.returns
-returns c = let a = c.args in
+returns c =
+    let a = c.args in
     let ix = c.requires.indexed in
     let p = c.pick.ensures in
     let f = ap₂ (λ (x y : ℕ). region x y a.base.now) c.set_start-s.ensures c.set_size-k.ensures ∙ set_there a.at a.base.now ix a.f c.requires.f_lt_faces.0 in

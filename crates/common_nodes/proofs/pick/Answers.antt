@@ -8,11 +8,13 @@ use Rattle.common_nodes.proofs.Picking.{picked_start, picked_in, picked_out, pic
 use Rattle.common_nodes.proofs.pick.Goals as goal
 
 pub loop-i-init : goal.loop-i-init
-loop-i-init c = let a = c.args in
+loop-i-init c =
+    let a = c.args in
     (picked_start (region a.s a.k a.base.now) (region a.t a.j a.base.now) a.own.now, omega arith)
 
 pub loop-i-preserved-then-has : goal.loop-i-preserved-then-has
-loop-i-preserved-then-has c = let a = c.args in
+loop-i-preserved-then-has c =
+    let a = c.args in
     let o = c.loop-i in
     let h = c.loop-i-test.true in
     let A = region a.s a.k a.base.now in
@@ -22,7 +24,8 @@ loop-i-preserved-then-has c = let a = c.args in
     )
 
 pub loop-i-preserved : goal.loop-i-preserved
-loop-i-preserved c = let a = c.args in
+loop-i-preserved c =
+    let a = c.args in
     let o = c.loop-i in
     let h = c.loop-i-test.true in
     let A = region a.s a.k a.base.now in
@@ -32,6 +35,7 @@ loop-i-preserved c = let a = c.args in
     )
 
 pub returns : goal.returns
-returns c = let a = c.args in
+returns c =
+    let a = c.args in
     let k = length-region a.s a.k a.base.now c.requires.0 in
     picked_all (region a.s a.k a.base.now) (region a.t a.j a.base.now) a.own.now c.loop-i.own c.loop-i.n c.loop-i.i c.loop-i.invariant.0 (omega (arith, k, c.loop-i-test.false))

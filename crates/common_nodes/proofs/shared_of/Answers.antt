@@ -12,7 +12,8 @@ use Rattle.common_nodes.proofs.Picking.{common_in, common_few, front, front_in}
 use Rattle.common_nodes.proofs.shared_of.Goals as goal
 
 pub slice_bounds-key_centroid-end : goal.slice_bounds-key_centroid-end
-slice_bounds-key_centroid-end c = let a = c.args in
+slice_bounds-key_centroid-end c =
+    let a = c.args in
     let A = nodes_of a.at (input a.at a.base.now) a.f in
     let B = nodes_of a.at (input a.at a.base.now) a.g in
     let few = c.requires.indexed.laid.few a.f c.requires.f_lt_faces.0 in
@@ -20,7 +21,8 @@ slice_bounds-key_centroid-end c = let a = c.args in
     omega (arith, most, c.list_common-n.ensures.0)
 
 pub key_centroid-requires : goal.key_centroid-requires
-key_centroid-requires c = let a = c.args in
+key_centroid-requires c =
+    let a = c.args in
     let A = nodes_of a.at (input a.at a.base.now) a.f in
     let B = nodes_of a.at (input a.at a.base.now) a.g in
     let few = c.requires.indexed.laid.few a.f c.requires.f_lt_faces.0 in
@@ -30,7 +32,8 @@ key_centroid-requires c = let a = c.args in
     )
 
 pub returns : goal.returns
-returns c = let a = c.args in
+returns c =
+    let a = c.args in
     let A = nodes_of a.at (input a.at a.base.now) a.f in
     let B = nodes_of a.at (input a.at a.base.now) a.g in
     let few = c.requires.indexed.laid.few a.f c.requires.f_lt_faces.0 in

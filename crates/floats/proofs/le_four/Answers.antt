@@ -4,6 +4,6 @@ use Rattle.floats.proofs.Bytes.{four}
 use Rattle.floats.proofs.le_four.Goals as goal
 
 pub returns : goal.returns
-returns c = let b = c in
-    let e = four b.args.s.now b.args.at b.requires in
+returns c =
+    let e = four c.args.s.now c.args.at c.requires in
     (omega arith, omega arith)

@@ -4,6 +4,6 @@ use Rattle.floats.proofs.Bytes.{two}
 use Rattle.floats.proofs.le_two.Goals as goal
 
 pub returns : goal.returns
-returns c = let b = c in
-    let e = two b.args.s.now b.args.at b.requires in
+returns c =
+    let e = two c.args.s.now c.args.at c.requires in
     (omega arith, omega arith)

@@ -4,6 +4,6 @@ use Rattle.floats.proofs.Bytes.{eight}
 use Rattle.floats.proofs.le_u64.Goals as goal
 
 pub returns : goal.returns
-returns c = let b = c in
-    let e = eight b.args.s.now b.args.at b.requires in
+returns c =
+    let e = eight c.args.s.now c.args.at c.requires in
     omega arith

@@ -15,5 +15,6 @@ returns-then-x-2 c = refused-below c.args.x c.if-x-2.true
 
 pub returns : goal.returns
 unfolding of_bits
-returns c = let x = c.args.x in
+returns c =
+    let x = c.args.x in
     ap done c.sqrt.ensures ∙ answered x (not_nan x c.if-x.false) c.if-x-2.false

@@ -7,11 +7,9 @@ use Rattle.floats.proofs.rounded.Goals as goal
 pub float_from_bits-result : goal.float_from_bits-result
 float_from_bits-result c =
     let root_of : IsRoot (c.args.m * 2 ^ 54) c.digits-d.result.root = of_rest (c.args.m * 2 ^ 54) c.digits-d.result.root c.digits-d.result.rest c.digits-d.ensures.0 in
-    let s = c in
-    result_plain s.args.m s.args.h c.digits-d.result.root s.requires.0 s.requires.1 s.requires.2 s.requires.3 (root_of)
+    result_plain c.args.m c.args.h c.digits-d.result.root c.requires.0 c.requires.1 c.requires.2 c.requires.3 root_of
 
 pub returns : goal.returns
 returns c =
     let root_of : IsRoot (c.args.m * 2 ^ 54) c.digits-d.result.root = of_rest (c.args.m * 2 ^ 54) c.digits-d.result.root c.digits-d.result.rest c.digits-d.ensures.0 in
-    let s = c in
-    result s.args.m s.args.h c.digits-d.result.root s.requires.0 s.requires.1 s.requires.2 s.requires.3 (root_of)
+    result c.args.m c.args.h c.digits-d.result.root c.requires.0 c.requires.1 c.requires.2 c.requires.3 root_of

@@ -16,38 +16,36 @@ pub float_to_bits-bits : goal.float_to_bits-bits
 float_to_bits-bits c = not_nan c.args.x c.if-x.false
 
 pub returns-then-significand-eq0 : goal.returns-then-significand-eq0
-returns-then-significand-eq0 c = let s = c in
-    at_zero s.args.x s.well_formed.0.1 c.if-exponent-eq0.true c.if-significand-eq0.true
+returns-then-significand-eq0 c = at_zero c.args.x c.well_formed.0.1 c.if-exponent-eq0.true c.if-significand-eq0.true
 
 pub returns-then-sign-eq1 : goal.returns-then-sign-eq1
 unfolding div of_bits
-returns-then-sign-eq1 c = let s = c in
-    sym (negative_low s.args.x s.well_formed.0.1 c.if-exponent-eq0.true c.if-significand-eq0.false c.if-sign-eq1.true)
+returns-then-sign-eq1 c = sym (negative_low c.args.x c.well_formed.0.1 c.if-exponent-eq0.true c.if-significand-eq0.false c.if-sign-eq1.true)
 
 pub overflow_sub-zeros : goal.overflow_sub-zeros
 overflow_sub-zeros c =
     let normal_of : Normal (significand_of c.args.x) = let x = c.args.x in normal (significand_of x) c.if-significand-eq0.false (significand_lt x) in
-    (normal_of).some
+    normal_of.some
 
 pub overflow_cast-zeros : goal.overflow_cast-zeros
 overflow_cast-zeros c =
     let normal_of : Normal (significand_of c.args.x) = let x = c.args.x in normal (significand_of x) c.if-significand-eq0.false (significand_lt x) in
-    record { fits = lt_of_le_of_lt (normal_of).few (lit< tt) }
+    record { fits = lt_of_le_of_lt normal_of.few (lit< tt) }
 
 pub overflow_shl-significand : goal.overflow_shl-significand
 overflow_shl-significand c =
     let normal_of : Normal (significand_of c.args.x) = let x = c.args.x in normal (significand_of x) c.if-significand-eq0.false (significand_lt x) in
-    lt_of_le_of_lt (normal_of).few (lit< tt)
+    lt_of_le_of_lt normal_of.few (lit< tt)
 
 pub overflow_cast-zeros-then-exponent-eq0 : goal.overflow_cast-zeros-then-exponent-eq0
 overflow_cast-zeros-then-exponent-eq0 c =
     let normal_of : Normal (significand_of c.args.x) = let x = c.args.x in normal (significand_of x) c.if-significand-eq0.false (significand_lt x) in
-    record { fits = lt_of_le_of_lt (normal_of).few (lit< tt) }
+    record { fits = lt_of_le_of_lt normal_of.few (lit< tt) }
 
 pub overflow_sub-zeros-then-exponent-eq0 : goal.overflow_sub-zeros-then-exponent-eq0
 overflow_sub-zeros-then-exponent-eq0 c =
     let normal_of : Normal (significand_of c.args.x) = let x = c.args.x in normal (significand_of x) c.if-significand-eq0.false (significand_lt x) in
-    le_trans (normal_of).few (lit≤ tt)
+    le_trans normal_of.few (lit≤ tt)
 
 pub of_power-requires : goal.of_power-requires
 of_power-requires c =
@@ -58,22 +56,18 @@ of_power-requires c =
 pub returns-then-exponent-eq0 : goal.returns-then-exponent-eq0
 returns-then-exponent-eq0 c =
     let normal_of : Normal (significand_of c.args.x) = let x = c.args.x in normal (significand_of x) c.if-significand-eq0.false (significand_lt x) in
-    let k = c in
-    let s = k in
-    let x = s.args.x in
+    let x = c.args.x in
     let t = significand_of x in
     let n = normal_of in
     c.of_power.ensures (t * 2 ^ 0) (moved t 0 (zeros_of t) (le_trans n.few (lit≤ tt)) ∙ ap (λ (p : ℕ). p * 2 ^ (1074 - zeros_of t)) (sym n.same))
-    ∙ sym (positive_low x s.well_formed.0.1 k.if-exponent-eq0.true k.if-significand-eq0.false k.if-sign-eq1.false)
+    ∙ sym (positive_low x c.well_formed.0.1 c.if-exponent-eq0.true c.if-significand-eq0.false c.if-sign-eq1.false)
 
 pub returns-then-sign-eq1-2 : goal.returns-then-sign-eq1-2
 unfolding div of_bits
-returns-then-sign-eq1-2 c = let s = c in
-    sym (negative_other s.args.x s.well_formed.0.1 c.if-exponent-eq0.false c.if-sign-eq1-2.true (not_nan s.args.x c.if-x.false))
+returns-then-sign-eq1-2 c = sym (negative_other c.args.x c.well_formed.0.1 c.if-exponent-eq0.false c.if-sign-eq1-2.true (not_nan c.args.x c.if-x.false))
 
 pub returns-then-exponent-eq2047 : goal.returns-then-exponent-eq2047
-returns-then-exponent-eq2047 c = let s = c in
-    at_top s.args.x s.well_formed.0.1 c.if-exponent-eq2047.true c.if-sign-eq1-2.false (not_nan s.args.x c.if-x.false)
+returns-then-exponent-eq2047 c = at_top c.args.x c.well_formed.0.1 c.if-exponent-eq2047.true c.if-sign-eq1-2.false (not_nan c.args.x c.if-x.false)
 
 pub overflow_add-significand : goal.overflow_add-significand
 overflow_add-significand c = omega (arith, significand_lt c.args.x)
@@ -85,8 +79,7 @@ pub of_power-requires-2 : goal.of_power-requires-2
 of_power-requires-2 c = omega (arith, significand_lt c.args.x, exponent_lt c.args.x, c.if-exponent-eq0.false)
 
 pub returns : goal.returns
-returns c = let k = c in
-    let s = k in
-    let x = s.args.x in
-    c.of_power-2.ensures ((2 ^ 52 + significand_of x) * 2 ^ (exponent_of x - 1)) (placed (significand_of x) (exponent_of x) k.if-exponent-eq0.false)
-    ∙ sym (positive_mid x s.well_formed.0.1 k.if-exponent-eq0.false k.if-exponent-eq2047.false k.if-sign-eq1-2.false)
+returns c =
+    let x = c.args.x in
+    c.of_power-2.ensures ((2 ^ 52 + significand_of x) * 2 ^ (exponent_of x - 1)) (placed (significand_of x) (exponent_of x) c.if-exponent-eq0.false)
+    ∙ sym (positive_mid x c.well_formed.0.1 c.if-exponent-eq0.false c.if-exponent-eq2047.false c.if-sign-eq1-2.false)

@@ -1,5 +1,4 @@
 -- `geometry::coordinates_off` meets its contract: what is found so far, or the test of the coordinates left, is the test of all.
-use Prim.Native.Nat.{◌-◌}
 use mathlib.Core.Path.{refl, sym, ◌∙◌}
 use native.Mathlib.Omega.{arith}
 use lib.Ieee.{nan}
@@ -12,10 +11,11 @@ pub loop-i-init : goal.loop-i-init
 loop-i-init c = (search rules, refl)
 
 pub loop-i-preserved : goal.loop-i-preserved
-loop-i-preserved c = let at = c in
-    let l = at.args.coords.now in
-    (search rules, any_more coordinate_off l at.loop-i.i nan at.loop-i.off c.coordinate_off-off.result (omega arith) c.coordinate_off-off.ensures ∙ at.loop-i.invariant.1)
+loop-i-preserved c =
+    let l = c.args.coords.now in (
+      search rules,
+      any_more coordinate_off l c.loop-i.i nan c.loop-i.off c.coordinate_off-off.result (omega arith) c.coordinate_off-off.ensures ∙ c.loop-i.invariant.1,
+    )
 
 pub returns : goal.returns
-returns c = let at = c in
-    sym (any-done coordinate_off at.args.coords.now at.loop-i.i at.loop-i.off (omega arith)) ∙ at.loop-i.invariant.1
+returns c = sym (any-done coordinate_off c.args.coords.now c.loop-i.i c.loop-i.off (omega arith)) ∙ c.loop-i.invariant.1

@@ -1,6 +1,6 @@
 -- `geometry::key_centroid` meets its contract: the invariant: the sum so far and the nodes left give the whole sum.
 use mathlib.Core.Path.{ap}
-use Prim.Native.Nat.{◌≤◌, ◌<◌, ◌-◌}
+use Prim.Native.Nat.{◌≤◌, ◌<◌}
 use native.Mathlib.Numerals.{add-one}
 use native.Mathlib.Omega.{arith}
 use lib.Seq.{drop-cons}
@@ -18,14 +18,14 @@ pub point3-requires : goal.point3-requires
 point3-requires c = c.requires.0 c.loop-i.i c.loop-i-test.true
 
 pub loop-i-preserved : goal.loop-i-preserved
-loop-i-preserved c = let at = c in
-    let nodes = at.args.nodes.now in
-    let h : at.loop-i.i < length nodes = omega arith in
-    (search rules, rw (add-one, c.plus-s.ensures, c.point3.ensures) (rw (drop-cons nodes at.loop-i.i 0) at at.loop-i.invariant.1))
+loop-i-preserved c =
+    let nodes = c.args.nodes.now in
+    let h : c.loop-i.i < length nodes = omega arith in
+    (search rules, rw (add-one, c.plus-s.ensures, c.point3.ensures) (rw (drop-cons nodes c.loop-i.i 0) at c.loop-i.invariant.1))
 
 pub returns : goal.returns
 unfolding centre_of
-returns c = let at = c in
-    let nodes = at.args.nodes.now in
-    let h : length nodes ≤ at.loop-i.i = omega arith in
-    rw (c.times.ensures, c.share_of.ensures, points_length) (ap (λ s. point_scale s (share (length nodes))) (rw (drop_of_length-le nodes h) at at.loop-i.invariant.1))
+returns c =
+    let nodes = c.args.nodes.now in
+    let h : length nodes ≤ c.loop-i.i = omega arith in
+    rw (c.times.ensures, c.share_of.ensures, points_length) (ap (λ s. point_scale s (share (length nodes))) (rw (drop_of_length-le nodes h) at c.loop-i.invariant.1))

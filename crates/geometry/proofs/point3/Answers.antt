@@ -10,7 +10,8 @@ use Rattle.geometry.proofs.point3.Goals as goal
 
 pub returns : goal.returns
 unfolding point_at
-returns c = let a = c.args in
+returns c =
+    let a = c.args in
     let any = get_or_any a.coords.now in
     let h0 : a.node * 3 < length a.coords.now = omega arith in
     let h1 : a.node * 3 + 1 < length a.coords.now = omega arith in

@@ -1,5 +1,5 @@
 -- `geometry::scale` meets its contract: the invariant: the largest so far and the nodes left give the scale.
-use Prim.Native.Nat.{◌≤◌, ◌<◌, ◌-◌}
+use Prim.Native.Nat.{◌≤◌, ◌<◌}
 use native.Mathlib.Omega.{arith}
 use lib.ListN.{length}
 use borrow.Author.Rules.{rules}
@@ -14,15 +14,15 @@ pub point3-requires : goal.point3-requires
 point3-requires c = c.requires c.loop-i.i c.loop-i-test.true
 
 pub loop-i-preserved : goal.loop-i-preserved
-loop-i-preserved c = let at = c in
-    let coords = at.args.coords.now in
-    let nodes = at.args.nodes.now in
-    let h : at.loop-i.i < length nodes = omega arith in
-    (search rules, rw (c.largest-m.ensures, c.point3.ensures) (rw (points_next coords nodes at.loop-i.i h) at at.loop-i.invariant.1))
+loop-i-preserved c =
+    let coords = c.args.coords.now in
+    let nodes = c.args.nodes.now in
+    let h : c.loop-i.i < length nodes = omega arith in
+    (search rules, rw (c.largest-m.ensures, c.point3.ensures) (rw (points_next coords nodes c.loop-i.i h) at c.loop-i.invariant.1))
 
 pub returns : goal.returns
-returns c = let at = c in
-    let coords = at.args.coords.now in
-    let nodes = at.args.nodes.now in
-    let h : length nodes ≤ at.loop-i.i = omega arith in
-    rw (points_end coords nodes at.loop-i.i h) at at.loop-i.invariant.1
+returns c =
+    let coords = c.args.coords.now in
+    let nodes = c.args.nodes.now in
+    let h : length nodes ≤ c.loop-i.i = omega arith in
+    rw (points_end coords nodes c.loop-i.i h) at c.loop-i.invariant.1

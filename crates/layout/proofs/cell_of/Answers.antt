@@ -12,5 +12,6 @@ pub bounds-work-at : goal.bounds-work-at
 bounds-work-at c = omega (arith, tables_in c.args.l c.args.work.now c.requires.faced, c.requires.faced.laid.cells_at, c.requires.g_lt_faces)
 
 pub returns : goal.returns
-returns c = let e = c.wide.ensures ∙ word_is c.args.l c.args.work.now c.requires.faced (c.args.l.at.cells + c.args.g) (omega (arith, c.requires.faced.laid.cells_at, c.requires.g_lt_faces)) in
+returns c =
+    let e = c.wide.ensures ∙ word_is c.args.l c.args.work.now c.requires.faced (c.args.l.at.cells + c.args.g) (omega (arith, c.requires.faced.laid.cells_at, c.requires.g_lt_faces)) in
     (e, omega (arith, e, c.requires.faced.laid.celled c.args.g c.requires.g_lt_faces))

@@ -12,5 +12,6 @@ pub bounds-work-at : goal.bounds-work-at
 bounds-work-at c = omega (arith, tables_in c.args.l c.args.work.now c.requires.faced, c.requires.faced.firsts_at, c.requires.c_bound)
 
 pub returns : goal.returns
-returns c = let e = c.wide.ensures ∙ word_is c.args.l c.args.work.now c.requires.faced (c.args.l.firsts + c.args.c) (omega (arith, c.requires.faced.firsts_at, c.requires.c_bound)) in
+returns c =
+    let e = c.wide.ensures ∙ word_is c.args.l c.args.work.now c.requires.faced (c.args.l.firsts + c.args.c) (omega (arith, c.requires.faced.firsts_at, c.requires.c_bound)) in
     (e, omega (arith, e, first_most c.args.l c.args.work.now c.requires.faced c.args.c c.requires.c_bound))

@@ -1,5 +1,5 @@
 -- `merge::lowest` meets its contract. r is the lowest of the first i runs.
-use Prim.Native.Nat.{ℕ, ◌-◌, ◌≤◌}
+use Prim.Native.Nat.{ℕ, ◌≤◌}
 use mathlib.Core.Path.{◌≡◌, subst}
 use native.Mathlib.Omega.{arith}
 use borrow.Author.Rules.{rules}
@@ -15,7 +15,8 @@ pub head_of-requires : goal.head_of-requires
 head_of-requires c = c.requires.1 c.loop-i.i c.loop-i-test.true
 
 pub loop-i-preserved : goal.loop-i-preserved
-loop-i-preserved c = let a = c.args in
+loop-i-preserved c =
+    let a = c.args in
     let l = c.loop-i in
     let v = c.lower-r.ensures in
     let e = c.head_of.ensures in (
@@ -28,6 +29,7 @@ loop-i-preserved c = let a = c.args in
     )
 
 pub returns : goal.returns
-returns c = let a = c.args in
+returns c =
+    let a = c.args in
     let e : c.loop-i.i ≡ a.k = omega arith in
     subst (λ (k : ℕ). Lowest k a.base.now a.from.now a.to.now a.d c.loop-i.r) e c.loop-i.invariant.1

@@ -1,5 +1,5 @@
 -- `merge::pass` meets its contract. The first i runs are passed: their places are stored, the others as before.
-use Prim.Native.Nat.{ℕ, ◌+◌, ◌-◌, ◌≤◌}
+use Prim.Native.Nat.{ℕ, ◌+◌, ◌≤◌}
 use mathlib.Core.Path.{◌≡◌, refl, sym, ap, ◌∙◌}
 use mathlib.Core.List.{List, [], ◌∷◌, ◌++◌, map, map-append}
 use mathlib.Core.Bool.{Bool, true, false, cond}
@@ -68,12 +68,14 @@ pub pass_one-n-requires : goal.pass_one-n-requires
 pass_one-n-requires c = (omega (arith, c.requires.ends.0), c.requires.ends.1 c.loop-i.i c.loop-i-test.true, c.requires.g_bound)
 
 pub overflow_add-n : goal.overflow_add-n
-overflow_add-n c = let a = c.args in
+overflow_add-n c =
+    let a = c.args in
     let l = c.loop-i in
     omega (arith, c.requires.ends.0, l.invariant.1, keep-length (stands a.base.now a.from.now a.to.now a.g) (up_from 0 l.i), length-up_from 0 l.i, c.pass_one-n.ensures.value, one_le (stands a.base.now l.from a.to.now a.g l.i))
 
 pub loop-i-preserved : goal.loop-i-preserved
-loop-i-preserved c = let a = c.args in
+loop-i-preserved c =
+    let a = c.args in
     let l = c.loop-i in (
       omega arith,
       ap (λ (m : ℕ). m + c.pass_one-n.result) l.invariant.1
@@ -83,6 +85,11 @@ loop-i-preserved c = let a = c.args in
     )
 
 pub returns : goal.returns
-returns c = let a = c.args in
+returns c =
+    let a = c.args in
     let l = c.loop-i in
-    let e : l.i ≡ a.k = omega arith in record { value = l.invariant.1 ∙ ap (λ (k : ℕ). length (keep (stands a.base.now a.from.now a.to.now a.g) (up_from 0 k))) e; from_after = l.invariant.2 ∙ ap (λ (k : ℕ). sets a.from.now 0 (map (next a.base.now a.from.now a.to.now a.g) (up_from 0 k))) e }
+    let e : l.i ≡ a.k = omega arith in
+    record {
+      value = l.invariant.1 ∙ ap (λ (k : ℕ). length (keep (stands a.base.now a.from.now a.to.now a.g) (up_from 0 k))) e;
+      from_after = l.invariant.2 ∙ ap (λ (k : ℕ). sets a.from.now 0 (map (next a.base.now a.from.now a.to.now a.g) (up_from 0 k))) e;
+    }

@@ -1,5 +1,5 @@
 -- `merge::places` meets its contract. The first i places are stored.
-use Prim.Native.Nat.{ℕ, ◌+◌, ◌-◌, ◌≤◌, ◌<◌}
+use Prim.Native.Nat.{ℕ, ◌+◌, ◌≤◌, ◌<◌}
 use mathlib.Core.Path.{◌≡◌, refl, sym, ap, ◌∙◌}
 use mathlib.Core.List.{List, map}
 use native.Mathlib.Omega.{arith}
@@ -48,11 +48,12 @@ loop-i-preserved c =
     let l = c.loop-i in (
       omega arith,
       ap (λ (t : List ℕ). set t l.i (a.x + c.wide-in-loop-i.result)) l.invariant.1
-          ∙ step a.base.now a.s a.k a.o a.x l.i a.to.now (a.x + c.wide-in-loop-i.result) c.loop-i-test.true c.requires.1 (ap (λ (j : ℕ). a.x + j) (value)),
+          ∙ step a.base.now a.s a.k a.o a.x l.i a.to.now (a.x + c.wide-in-loop-i.result) c.loop-i-test.true c.requires.1 (ap (λ (j : ℕ). a.x + j) value),
     )
 
 pub returns : goal.returns
-returns c = let a = c.args in
+returns c =
+    let a = c.args in
     let l = c.loop-i in
     let ys = map (λ n. a.x + get_or a.base.now (a.o + n) 0) (region a.s a.k a.base.now) in
     let long : length ys ≤ l.i = omega (arith, length-map (region a.s a.k a.base.now) (λ n. a.x + get_or a.base.now (a.o + n) 0), length-region a.s a.k a.base.now c.requires.1) in

@@ -5,20 +5,23 @@ use mathlib.Core.Path.{sym, ◌∙◌}
 use Rattle.mesh.proofs.accept.Goals as goal
 
 pub returns-then-shape_off : goal.returns-then-shape_off
-returns-then-shape_off c = let a = c.args in
+returns-then-shape_off c =
+    let a = c.args in
     let m = model_of a.coords.now a.kinds.now a.ends.now a.words.now a.tol a.checks.0 0 in
     let e5 = sym (shape_is m) ∙ sym c.shape_off.ensures ∙ c.if-shape_off.true in
     model_refused m _ 5 (row5 m e5) (λ z. omega arith) c.refused.ensures
 
 pub returns-then-tolerance_off : goal.returns-then-tolerance_off
-returns-then-tolerance_off c = let a = c.args in
+returns-then-tolerance_off c =
+    let a = c.args in
     let m = model_of a.coords.now a.kinds.now a.ends.now a.words.now a.tol a.checks.0 0 in
     let e5 = sym (shape_is m) ∙ sym c.shape_off.ensures ∙ c.if-shape_off.false in
     let e6 = sym c.tolerance_off.ensures ∙ c.if-tolerance_off.true in
     model_refused m _ 6 (row6 m e5 e6) (λ z. omega arith) c.refused-then-tolerance_off.ensures
 
 pub returns-then-coordinates_off : goal.returns-then-coordinates_off
-returns-then-coordinates_off c = let a = c.args in
+returns-then-coordinates_off c =
+    let a = c.args in
     let m = model_of a.coords.now a.kinds.now a.ends.now a.words.now a.tol a.checks.0 0 in
     let e5 = sym (shape_is m) ∙ sym c.shape_off.ensures ∙ c.if-shape_off.false in
     let e6 = sym c.tolerance_off.ensures ∙ c.if-tolerance_off.false in
@@ -26,7 +29,8 @@ returns-then-coordinates_off c = let a = c.args in
     model_refused m _ 7 (row7 m e5 e6 e7) (λ z. omega arith) c.refused-then-coordinates_off.ensures
 
 pub returns-then-kinds-eq0 : goal.returns-then-kinds-eq0
-returns-then-kinds-eq0 c = let a = c.args in
+returns-then-kinds-eq0 c =
+    let a = c.args in
     let m = model_of a.coords.now a.kinds.now a.ends.now a.words.now a.tol a.checks.0 0 in
     let e5 = sym (shape_is m) ∙ sym c.shape_off.ensures ∙ c.if-shape_off.false in
     let e6 = sym c.tolerance_off.ensures ∙ c.if-tolerance_off.false in
@@ -34,7 +38,8 @@ returns-then-kinds-eq0 c = let a = c.args in
     model_refused m _ 8 (row8 m e5 e6 e7 c.if-kinds-eq0.true) (λ z. omega arith) c.refused-then-kinds-eq0.ensures
 
 pub tally_cells-t-requires : goal.tally_cells-t-requires
-tally_cells-t-requires c = let a = c.args in
+tally_cells-t-requires c =
+    let a = c.args in
     let m = model_of a.coords.now a.kinds.now a.ends.now a.words.now a.tol a.checks.0 0 in
     let e5 = sym (shape_is m) ∙ sym c.shape_off.ensures ∙ c.if-shape_off.false in
     let h = shaped m e5 in
@@ -42,7 +47,8 @@ tally_cells-t-requires c = let a = c.args in
 
 pub returns-then-t-ne0 : goal.returns-then-t-ne0
 unfolding cells_of
-returns-then-t-ne0 c = let a = c.args in
+returns-then-t-ne0 c =
+    let a = c.args in
     let m = model_of a.coords.now a.kinds.now a.ends.now a.words.now a.tol a.checks.0 0 in
     let e5 = sym (shape_is m) ∙ sym c.shape_off.ensures ∙ c.if-shape_off.false in
     let e6 = sym c.tolerance_off.ensures ∙ c.if-tolerance_off.false in
@@ -54,7 +60,8 @@ returns-then-t-ne0 c = let a = c.args in
 
 pub returns-then-checks-gt3 : goal.returns-then-checks-gt3
 unfolding cells_of
-returns-then-checks-gt3 c = let a = c.args in
+returns-then-checks-gt3 c =
+    let a = c.args in
     let m = model_of a.coords.now a.kinds.now a.ends.now a.words.now a.tol a.checks.0 0 in
     let e5 = sym (shape_is m) ∙ sym c.shape_off.ensures ∙ c.if-shape_off.false in
     let e6 = sym c.tolerance_off.ensures ∙ c.if-tolerance_off.false in
@@ -65,7 +72,8 @@ returns-then-checks-gt3 c = let a = c.args in
 
 pub returns : goal.returns
 unfolding cells_of
-returns c = let a = c.args in
+returns c =
+    let a = c.args in
     let m = model_of a.coords.now a.kinds.now a.ends.now a.words.now a.tol a.checks.0 0 in
     let e5 = sym (shape_is m) ∙ sym c.shape_off.ensures ∙ c.if-shape_off.false in
     let e6 = sym c.tolerance_off.ensures ∙ c.if-tolerance_off.false in

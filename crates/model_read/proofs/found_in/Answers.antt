@@ -13,5 +13,13 @@ pub cap_of-requires : goal.cap_of-requires
 cap_of-requires c = omega (arith, c)
 
 pub returns : goal.returns
-returns c = let a = c.args in
-    λ i. record { nodes = a.p.coords / 3; cells = a.p.cells; words = a.p.words; tolerance = c.le_f64.ensures i; flags = get_or a.r.now 1 0; cap = c.cap_of.ensures i }
+returns c =
+    let a = c.args in
+    λ i. record {
+      nodes = a.p.coords / 3;
+      cells = a.p.cells;
+      words = a.p.words;
+      tolerance = c.le_f64.ensures i;
+      flags = get_or a.r.now 1 0;
+      cap = c.cap_of.ensures i;
+    }

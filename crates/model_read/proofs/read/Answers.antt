@@ -17,7 +17,7 @@ pub returns-then-length_off : goal.returns-then-length_off
 returns-then-length_off c =
     let each_byte : All Byte c.args.bytes.now = all_known Byte 0 c.args.bytes.now (λ i. (c.shared_slice_known-1.given i).fits) in
     let a = c.args in
-    reading_refused a.bytes.now a.coords.now a.kinds.now a.ends.now a.words.now (each_byte) 1
+    reading_refused a.bytes.now a.coords.now a.kinds.now a.ends.now a.words.now each_byte 1
     (refused-length a.bytes.now a.coords.now a.kinds.now a.ends.now a.words.now (sym c.length_off.ensures ∙ c.if-length_off.true))
     (λ z. omega arith)
 
@@ -27,8 +27,8 @@ leading_nodes-nodes-requires c = tt
 pub judge_all-t-requires : goal.judge_all-t-requires
 judge_all-t-requires c =
     let right_length : length_off (length c.args.bytes.now) ≡ false = sym c.length_off.ensures ∙ c.if-length_off.false in
-    let whole : Whole c.args.bytes.now = length_whole c.args.bytes.now (right_length) in
-    ((whole).whole, (whole).few, c.leading_nodes-nodes.ensures)
+    let whole : Whole c.args.bytes.now = length_whole c.args.bytes.now right_length in
+    (whole.whole, whole.few, c.leading_nodes-nodes.ensures)
 
 pub returns-then-no-ne0 : goal.returns-then-no-ne0
 returns-then-no-ne0 c =
@@ -37,8 +37,8 @@ returns-then-no-ne0 c =
     let a = c.args in
     let j = c.judge_all-t in
     let e = j.ensures.refusal in
-    reading_refused a.bytes.now a.coords.now a.kinds.now a.ends.now a.words.now (each_byte) j.result.refusal
-    (refused_records a.bytes.now a.coords.now a.kinds.now a.ends.now a.words.now (right_length) (λ z. c.if-no-ne0.true (e ∙ z)) ∙ sym e)
+    reading_refused a.bytes.now a.coords.now a.kinds.now a.ends.now a.words.now each_byte j.result.refusal
+    (refused_records a.bytes.now a.coords.now a.kinds.now a.ends.now a.words.now right_length (λ z. c.if-no-ne0.true (e ∙ z)) ∙ sym e)
     c.if-no-ne0.true
 
 pub room_off-requires : goal.room_off-requires
@@ -50,8 +50,8 @@ returns-then-room_off c =
     let right_length : length_off (length c.args.bytes.now) ≡ false = sym c.length_off.ensures ∙ c.if-length_off.false in
     let a = c.args in
     let j = c.judge_all-t in
-    reading_refused a.bytes.now a.coords.now a.kinds.now a.ends.now a.words.now (each_byte) 4
-    (refused_room a.bytes.now a.coords.now a.kinds.now a.ends.now a.words.now j.result j.ensures c.if-no-ne0.false (right_length) (sym c.room_off.ensures ∙ c.if-room_off.true))
+    reading_refused a.bytes.now a.coords.now a.kinds.now a.ends.now a.words.now each_byte 4
+    (refused_room a.bytes.now a.coords.now a.kinds.now a.ends.now a.words.now j.result j.ensures c.if-no-ne0.false right_length (sym c.room_off.ensures ∙ c.if-room_off.true))
     (λ z. omega arith)
 
 pub fill_all-requires : goal.fill_all-requires
@@ -60,19 +60,19 @@ fill_all-requires c =
     let room : short c.judge_all-t.result.place (length c.args.coords.now) (length c.args.kinds.now) (length c.args.ends.now) (length c.args.words.now) ≡ false = sym c.room_off.ensures ∙ c.if-room_off.false in
     let fits : Fitting c.args.bytes.now (length c.args.coords.now) (length c.args.kinds.now) (length c.args.ends.now) (length c.args.words.now) = let a = c.args in
     let j = c.judge_all-t in
-    fitting a.bytes.now a.coords.now a.kinds.now a.ends.now a.words.now j.result j.ensures c.if-no-ne0.false (right_length) (room) in
+    fitting a.bytes.now a.coords.now a.kinds.now a.ends.now a.words.now j.result j.ensures c.if-no-ne0.false right_length room in
     (fits, c.leading_nodes-nodes.ensures)
 
 pub overflow_sub-last : goal.overflow_sub-last
 overflow_sub-last c =
     let right_length : length_off (length c.args.bytes.now) ≡ false = sym c.length_off.ensures ∙ c.if-length_off.false in
-    let whole : Whole c.args.bytes.now = length_whole c.args.bytes.now (right_length) in
-    omega (arith, (whole).some, (whole).whole)
+    let whole : Whole c.args.bytes.now = length_whole c.args.bytes.now right_length in
+    omega (arith, whole.some, whole.whole)
 
 pub found_in-requires : goal.found_in-requires
 found_in-requires c =
     let right_length : length_off (length c.args.bytes.now) ≡ false = sym c.length_off.ensures ∙ c.if-length_off.false in
-    let whole : Whole c.args.bytes.now = length_whole c.args.bytes.now (right_length) in
+    let whole : Whole c.args.bytes.now = length_whole c.args.bytes.now right_length in
     let w = whole in last_long c.args.bytes.now w.some w.whole
 
 pub shape_of-coords : goal.shape_of-coords
@@ -91,18 +91,18 @@ pub returns : goal.returns
 returns c =
     let each_byte : All Byte c.args.bytes.now = all_known Byte 0 c.args.bytes.now (λ i. (c.shared_slice_known-1.given i).fits) in
     let right_length : length_off (length c.args.bytes.now) ≡ false = sym c.length_off.ensures ∙ c.if-length_off.false in
-    let whole : Whole c.args.bytes.now = length_whole c.args.bytes.now (right_length) in
+    let whole : Whole c.args.bytes.now = length_whole c.args.bytes.now right_length in
     let room : short c.judge_all-t.result.place (length c.args.coords.now) (length c.args.kinds.now) (length c.args.ends.now) (length c.args.words.now) ≡ false = sym c.room_off.ensures ∙ c.if-room_off.false in
     let fits : Fitting c.args.bytes.now (length c.args.coords.now) (length c.args.kinds.now) (length c.args.ends.now) (length c.args.words.now) = let a = c.args in
     let j = c.judge_all-t in
-    fitting a.bytes.now a.coords.now a.kinds.now a.ends.now a.words.now j.result j.ensures c.if-no-ne0.false (right_length) (room) in
+    fitting a.bytes.now a.coords.now a.kinds.now a.ends.now a.words.now j.result j.ensures c.if-no-ne0.false right_length room in
     let a = c.args in
     let s = a.bytes.now in
     let w = whole in
     let j = c.judge_all-t in
     let z = c.if-no-ne0.false in
     let e = c.fill_all in
-    reading_done s a.coords.now a.kinds.now a.ends.now a.words.now (each_byte) e.new.coords e.new.kinds e.new.ends e.new.words c.found_in.result
+    reading_done s a.coords.now a.kinds.now a.ends.now a.words.now each_byte e.new.coords e.new.kinds e.new.ends e.new.words c.found_in.result
     (c.found_in.ensures ∙ found_is_lem s _ j.result.place (last_lent s w.some w.whole) (j.ensures.coords z) (j.ensures.cells z) (j.ensures.words z))
-    (refused_none s a.coords.now a.kinds.now a.ends.now a.words.now j.result j.ensures z (right_length) (room))
-    (fits) e.ensures
+    (refused_none s a.coords.now a.kinds.now a.ends.now a.words.now j.result j.ensures z right_length room)
+    fits e.ensures

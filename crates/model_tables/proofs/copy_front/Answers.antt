@@ -15,7 +15,8 @@ pub loop-i-init : goal.loop-i-init
 loop-i-init c = (search rules, refl, refl)
 
 pub loop-i-preserved : goal.loop-i-preserved
-loop-i-preserved c = let a = c.args in
+loop-i-preserved c =
+    let a = c.args in
     let l = a.work.now in
     let ys = region a.a a.n l in
     let i = c.loop-i.i in
@@ -33,7 +34,8 @@ pub shape_of-work : goal.shape_of-work
 shape_of-work c = c.loop-i.invariant.2
 
 pub returns : goal.returns
-returns c = let a = c.args in
+returns c =
+    let a = c.args in
     let ys = region a.a a.n a.work.now in
     let long : length ys ≡ a.n = simp (length-take, length-drop) (omega arith) in
     let h : length ys ≤ c.loop-i.i = omega arith in

@@ -24,7 +24,7 @@ pub overflow_sub-e : goal.overflow_sub-e
 overflow_sub-e c =
     let step : Step c.args.kinds.now c.args.ends.now c.args.words.now c.loop-i.from c.loop-i.i = let a = c.args in
     cells_step a.kinds.now a.ends.now a.words.now c.loop-i.from c.loop-i.i c.requires.equal c.loop-i-test.true c.loop-i.invariant.1 in
-    omega (arith, (step).low, c.wide-e.ensures.0)
+    omega (arith, step.low, c.wide-e.ensures.0)
 
 pub cell_size-sum-requires : goal.cell_size-sum-requires
 cell_size-sum-requires c = tt
@@ -35,7 +35,7 @@ overflow_add-sum c =
     cells_step a.kinds.now a.ends.now a.words.now c.loop-i.from c.loop-i.i c.requires.equal c.loop-i-test.true c.loop-i.invariant.1 in
     let size : c.cell_size-sum.result ≡ 1 + (get_or c.args.ends.now c.loop-i.i 0 - c.loop-i.from - 1) / 14 = c.cell_size-sum.ensures ∙ ap (λ (x : ℕ). 1 + (x - c.loop-i.from - 1) / 14) c.wide-e.ensures.0 in
     let a = c.args in
-    omega (arith, size, (step).count, c.loop-i.invariant.2, cells_few 0 a.kinds.now a.ends.now a.words.now, c.requires.few, c.requires.few_words)
+    omega (arith, size, step.count, c.loop-i.invariant.2, cells_few 0 a.kinds.now a.ends.now a.words.now, c.requires.few, c.requires.few_words)
 
 pub overflow_add-i : goal.overflow_add-i
 overflow_add-i c = omega (arith, c.loop-i-test.true)
@@ -58,6 +58,7 @@ loop-i-preserved c =
     )
 
 pub returns : goal.returns
-returns c = let a = c.args in
+returns c =
+    let a = c.args in
     let z = cells_end a.kinds.now a.ends.now a.words.now c.loop-i.from c.loop-i.i c.loop-i-test.false in
     sym (add-zero c.loop-i.sum) ∙ sym (ap (λ (x : List (List ℕ)). c.loop-i.sum + length x) z) ∙ c.loop-i.invariant.2

@@ -31,7 +31,8 @@ pub shape_of-out : goal.shape_of-out
 shape_of-out c = c.put_mores.auto.out ∙ c.put_record_at.auto.out
 
 pub returns : goal.returns
-returns c = let a = c.args in
+returns c =
+    let a = c.args in
     let m = c.at_most_14-c in
     let e1 = c.put_record_at in
     let e2 = c.put_mores in

@@ -1,4 +1,4 @@
-use Prim.Native.Nat.{ℕ, ◌-◌}
+use Prim.Native.Nat.{ℕ}
 use mathlib.Core.List.{List}
 use mathlib.Core.Path.{refl, sym, ap, ◌∙◌}
 use native.Mathlib.Omega.{arith}
@@ -23,7 +23,7 @@ pub overflow_sub-e : goal.overflow_sub-e
 overflow_sub-e c =
     let step : Step c.args.kinds.now c.args.ends.now c.args.words.now c.loop-i.from c.loop-i.i = let a = c.args in
     cells_step a.kinds.now a.ends.now a.words.now c.loop-i.from c.loop-i.i c.requires.0.equal c.loop-i-test.true c.loop-i.invariant.order in
-    omega (arith, (step).low, c.wide-e.ensures.0)
+    omega (arith, step.low, c.wide-e.ensures.0)
 
 pub put_cell-p-requires : goal.put_cell-p-requires
 put_cell-p-requires c =
@@ -40,7 +40,8 @@ pub loop-i-smaller : goal.loop-i-smaller
 loop-i-smaller c = omega (arith, c.loop-i-test.true)
 
 pub loop-i-preserved : goal.loop-i-preserved
-loop-i-preserved c = let a = c.args in
+loop-i-preserved c =
+    let a = c.args in
     let x = c.wide-e in
     let q = c.put_cell-p in
     celling_step a.kinds.now a.ends.now a.words.now a.out.now a.at c.loop-i.out q.new.out c.loop-i.p q.result c.loop-i.from c.loop-i.i x.result c.loop-i.invariant c.requires.0.equal c.loop-i-test.true x.ensures.0 q.ensures.0 q.ensures.1
@@ -49,6 +50,7 @@ pub shape_of-out : goal.shape_of-out
 shape_of-out c = c.loop-i.invariant.long
 
 pub returns : goal.returns
-returns c = let a = c.args in
+returns c =
+    let a = c.args in
     let z = cells_end a.kinds.now a.ends.now a.words.now c.loop-i.from c.loop-i.i c.loop-i-test.false in
     sym (ap (λ (x : List (List ℕ)). sets c.loop-i.out c.loop-i.p (join x)) z) ∙ c.loop-i.invariant.rest

@@ -1,4 +1,4 @@
-use Prim.Native.Nat.{◌+◌, ◌*◌, ◌-◌}
+use Prim.Native.Nat.{◌+◌, ◌*◌}
 use mathlib.Core.Path.{sym, ap, ◌∙◌}
 use native.Mathlib.Omega.{arith}
 use lib.Seq.{sets}
@@ -6,7 +6,8 @@ use Rattle.model_write.proofs.Putting.{wording_start, wording_step, words_done, 
 use Rattle.model_write.proofs.put_few.Goals as goal
 
 pub loop-j-init : goal.loop-j-init
-loop-j-init c = let a = c.args in
+loop-j-init c =
+    let a = c.args in
     wording_start a.r.now a.words.now a.at a.from a.n
 
 pub overflow_mul-j : goal.overflow_mul-j
@@ -37,7 +38,8 @@ pub loop-j-smaller : goal.loop-j-smaller
 loop-j-smaller c = omega (arith, c)
 
 pub loop-j-preserved : goal.loop-j-preserved
-loop-j-preserved c = let a = c.args in
+loop-j-preserved c =
+    let a = c.args in
     let lt = c.loop-j-test.true in
     let e = c.put_bytes in
     let w = c.narrow_of in
@@ -48,5 +50,6 @@ pub shape_of-r : goal.shape_of-r
 shape_of-r c = c.loop-j.invariant.long
 
 pub returns : goal.returns
-returns c = let a = c.args in
+returns c =
+    let a = c.args in
     sym (words_done c.loop-j.r a.words.now a.at a.from a.n c.loop-j.j (omega arith)) ∙ c.loop-j.invariant.rest

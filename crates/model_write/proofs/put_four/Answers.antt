@@ -73,7 +73,8 @@ pub shape_of-r : goal.shape_of-r
 shape_of-r c = c.put_bytes-4.auto.out ∙ c.put_bytes-3.auto.out ∙ c.put_bytes-2.auto.out ∙ c.put_bytes.auto.out
 
 pub returns : goal.returns
-returns c = let a = c.args in
+returns c =
+    let a = c.args in
     four_put a.r.now c.put_bytes.new.out c.put_bytes-2.new.out c.put_bytes-3.new.out c.put_bytes-4.new.out a.words.now a.at a.from c.narrow_of-a.result c.narrow_of-b.result c.narrow_of-c.result c.narrow_of-d.result c.requires.0
     c.narrow_of-a.ensures
     c.narrow_of-b.ensures

@@ -12,19 +12,23 @@ pub bounds-r-1 : goal.bounds-r-1
 bounds-r-1 c = simp length-set (omega (arith, c))
 
 pub put_bytes-requires : goal.put_bytes-requires
-put_bytes-requires c = let a = c.args in
+put_bytes-requires c =
+    let a = c.args in
     omega (arith, length-set a.r.now 0 84, length-set (set a.r.now 0 84) 1 a.flags)
 
 pub put_zeros-requires : goal.put_zeros-requires
-put_zeros-requires c = let a = c.args in
+put_zeros-requires c =
+    let a = c.args in
     omega (arith, length-set a.r.now 0 84, length-set (set a.r.now 0 84) 1 a.flags)
 
 pub put_f64-requires : goal.put_f64-requires
-put_f64-requires c = let a = c.args in
+put_f64-requires c =
+    let a = c.args in
     omega (arith, length-set a.r.now 0 84, length-set (set a.r.now 0 84) 1 a.flags)
 
 pub put_zeros-requires-2 : goal.put_zeros-requires-2
-put_zeros-requires-2 c = let a = c.args in
+put_zeros-requires-2 c =
+    let a = c.args in
     omega (arith, length-set a.r.now 0 84, length-set (set a.r.now 0 84) 1 a.flags)
 
 pub shape_of-r : goal.shape_of-r
@@ -35,7 +39,7 @@ shape_of-r c =
     let e3 = c.put_f64 in
     let e4 = c.put_zeros-2 in
     last_put a.r.now e1.new.out e2.new.s e3.new.out e4.new.s a.flags a.cap a.tolerance e1.ensures e2.ensures e3.ensures e4.ensures c.requires in
-    ap length (written) ∙ sym c.requires
+    ap length written ∙ sym c.requires
 
 pub returns : goal.returns
 returns c =

@@ -23,7 +23,8 @@ pub put_last-requires : goal.put_last-requires
 put_last-requires c = omega (arith, c)
 
 pub returns : goal.returns
-returns c = let a = c.args in
+returns c =
+    let a = c.args in
     let o = a.out.now in
     ap (λ (x : List ℕ). take a.at o ++ (x ++ drop (a.at + 32 - a.at) (drop a.at o))) c.put_last.ensures
-    ∙ lent_sets 32 o (last_record a.flags a.cap a.tolerance) a.at (refl) c.requires
+    ∙ lent_sets 32 o (last_record a.flags a.cap a.tolerance) a.at refl c.requires

@@ -26,7 +26,8 @@ pub loop-left-smaller : goal.loop-left-smaller
 loop-left-smaller c = omega (arith, c)
 
 pub loop-left-preserved : goal.loop-left-preserved
-loop-left-preserved c = let a = c.args in
+loop-left-preserved c =
+    let a = c.args in
     let m = c.at_most_14-c in
     let e = c.put_record_at in
     continuing_step a.words.now a.out.now a.at a.from a.n c.loop-left.out e.new.out c.loop-left.p c.loop-left.f c.loop-left.left m.result c.loop-left.invariant c.requires.0 c.loop-left-test.true m.ensures e.ensures
@@ -35,4 +36,7 @@ pub shape_of-out : goal.shape_of-out
 shape_of-out c = c.loop-left.invariant.long
 
 pub returns : goal.returns
-returns c = (sym (mores_done c.loop-left.out c.loop-left.p c.loop-left.left (take c.loop-left.left (drop c.loop-left.f c.args.words.now)) c.loop-left-test.false) ∙ c.loop-left.invariant.rest, omega (arith, c.loop-left.invariant.place, c.loop-left-test.false))
+returns c = (
+  sym (mores_done c.loop-left.out c.loop-left.p c.loop-left.left (take c.loop-left.left (drop c.loop-left.f c.args.words.now)) c.loop-left-test.false) ∙ c.loop-left.invariant.rest,
+  omega (arith, c.loop-left.invariant.place, c.loop-left-test.false),
+)

@@ -28,7 +28,7 @@ shape_of-r c =
     let e3 = c.put_f64-2 in
     let e4 = c.put_f64-3 in
     node_put a.r.now e1.new.s e2.new.out e3.new.out e4.new.out a.x a.y a.z e1.ensures e2.ensures e3.ensures e4.ensures c.requires in
-    ap length (written) ∙ sym c.requires
+    ap length written ∙ sym c.requires
 
 pub returns : goal.returns
 returns c =

@@ -23,7 +23,8 @@ pub put_node-requires : goal.put_node-requires
 put_node-requires c = omega (arith, c)
 
 pub returns : goal.returns
-returns c = let a = c.args in
+returns c =
+    let a = c.args in
     let o = a.out.now in
     ap (λ (x : List ℕ). take a.at o ++ (x ++ drop (a.at + 32 - a.at) (drop a.at o))) c.put_node.ensures
-    ∙ lent_sets 32 o (node_record a.x a.y a.z) a.at (refl) c.requires
+    ∙ lent_sets 32 o (node_record a.x a.y a.z) a.at refl c.requires

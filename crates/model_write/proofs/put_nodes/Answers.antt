@@ -1,4 +1,3 @@
-use Prim.Native.Nat.{◌-◌}
 use mathlib.Core.Path.{refl, sym, ◌∙◌}
 use native.Mathlib.Omega.{arith}
 use Rattle.model_write.proofs.Passes.{noding_step, nodes_done}
@@ -53,7 +52,8 @@ pub loop-i-smaller : goal.loop-i-smaller
 loop-i-smaller c = omega (arith, c)
 
 pub loop-i-preserved : goal.loop-i-preserved
-loop-i-preserved c = let a = c.args in
+loop-i-preserved c =
+    let a = c.args in
     let e = c.put_node_at in
     noding_step a.coords.now a.out.now c.loop-i.out e.new.out _ c.loop-i.i c.loop-i.invariant c.loop-i-test.true e.ensures
 

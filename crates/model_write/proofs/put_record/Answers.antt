@@ -19,14 +19,16 @@ pub overflow_cast-r : goal.overflow_cast-r
 overflow_cast-r c = omega (arith, c)
 
 pub bounds-r-2 : goal.bounds-r-2
-bounds-r-2 c = let a = c.args in
+bounds-r-2 c =
+    let a = c.args in
     let l1 = length-set c.put_zeros.new.s 0 a.letter in
     let l2 = length-set (set c.put_zeros.new.s 0 a.letter) 1 a.kind in
     let l : length c.put_zeros.new.s ≡ length a.r.now = c.put_zeros.auto.s in
     omega arith
 
 pub put_words-requires : goal.put_words-requires
-put_words-requires c = let a = c.args in
+put_words-requires c =
+    let a = c.args in
     let r1 = set c.put_zeros.new.s 0 a.letter in
     let r2 = set r1 1 a.kind in
     let l1 = length-set c.put_zeros.new.s 0 a.letter in
@@ -36,12 +38,14 @@ put_words-requires c = let a = c.args in
     (c.requires.1, omega arith, c.requires.2)
 
 pub returns : goal.returns
-returns c = let a = c.args in
+returns c =
+    let a = c.args in
     let ws = take a.n (drop a.from a.words.now) in
     let n : a.n ≡ length ws = sym (length-take-le a.n (drop a.from a.words.now) (omega (arith, length-drop a.from a.words.now, c.requires.1))) in
     word_put a.r.now c.put_zeros.new.s c.put_words.new.r ws a.letter a.kind a.n n c.requires.2 c.put_zeros.ensures c.put_words.ensures c.requires.0
 
 pub shape_of-r : goal.shape_of-r
-shape_of-r c = let a = c.args in
+shape_of-r c =
+    let a = c.args in
     let ws = take a.n (drop a.from a.words.now) in
     ap length (returns c) ∙ word_length a.letter a.kind ws (omega (arith, length-take a.n (drop a.from a.words.now), c.requires.2)) ∙ sym c.requires.0

@@ -24,7 +24,8 @@ pub put_record-requires : goal.put_record-requires
 put_record-requires c = omega (arith, c)
 
 pub returns : goal.returns
-returns c = let a = c.args in
+returns c =
+    let a = c.args in
     let o = a.out.now in
     ap (λ (x : List ℕ). take a.at o ++ (x ++ drop (a.at + 32 - a.at) (drop a.at o))) c.put_record.ensures
     ∙ lent_sets 32 o (word_record a.letter a.kind (take a.n (drop a.from a.words.now))) a.at (word_length a.letter a.kind (take a.n (drop a.from a.words.now)) (omega (arith, length-take a.n (drop a.from a.words.now), c.requires.2))) c.requires.0

@@ -1,11 +1,11 @@
-use Prim.Native.Nat.{◌-◌}
 use mathlib.Core.Path.{◌∙◌}
 use native.Mathlib.Omega.{arith}
 use Rattle.model_write.proofs.Putting.{wording_start, wording_step}
 use Rattle.model_write.proofs.put_words.Goals as goal
 
 pub loop-j-init : goal.loop-j-init
-loop-j-init c = let a = c.args in
+loop-j-init c =
+    let a = c.args in
     wording_start a.r.now a.words.now 4 a.from a.n
 
 pub overflow_sub-n : goal.overflow_sub-n
@@ -30,7 +30,8 @@ pub loop-j-smaller : goal.loop-j-smaller
 loop-j-smaller c = omega (arith, c)
 
 pub loop-j-preserved : goal.loop-j-preserved
-loop-j-preserved c = let a = c.args in
+loop-j-preserved c =
+    let a = c.args in
     wording_step a.r.now a.words.now 4 a.from a.n c.loop-j.r c.put_four.new.r c.loop-j.j 4 c.loop-j.invariant (omega (arith, c.loop-j-test.true)) c.requires.0 c.put_four.ensures
 
 pub overflow_mul-j-2 : goal.overflow_mul-j-2

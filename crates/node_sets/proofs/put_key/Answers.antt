@@ -14,17 +14,16 @@ use Rattle.node_sets.proofs.put_key.Goals as goal
 pub overflow_sub-n : goal.overflow_sub-n
 overflow_sub-n c =
     let ring : Ring c.args.l c.args.work.now c.args.g c.ring_row-s.result c.ring_row-e.result = record { ringed = c.requires.0; face = c.requires.3; from = c.ring_row-s.ensures.0; to = c.ring_row-e.ensures.0 } in
-    rows_rise (ring)
+    rows_rise ring
 
 pub returns : goal.returns
 returns c =
     let ring : Ring c.args.l c.args.work.now c.args.g c.ring_row-s.result c.ring_row-e.result = let s = c in
     record { ringed = s.requires.0; face = s.requires.3; from = c.ring_row-s.ensures.0; to = c.ring_row-e.ensures.0 } in
-    let s = c in
-    let a = s.args in
+    let a = c.args in
     let r = ring in
     let row = ring_row a.l (take a.l.at.bows a.work.now) a.g in
     let o = a.l.keys + c.ring_row-s.result in
     let put = c.copy.ensures ∙ ap (sets a.work.now o) (ring_is r) in
-    sorted_there a.work.now _ _ row o _ (ring_long r) (omega (arith, rows_rise r, rows_within r, s.requires.2)) put c.sort_words.ensures
+    sorted_there a.work.now _ _ row o _ (ring_long r) (omega (arith, rows_rise r, rows_within r, c.requires.2)) put c.sort_words.ensures
     ∙ ap (λ (k : ℕ). sets a.work.now (a.l.keys + k) (sort leb row)) r.from

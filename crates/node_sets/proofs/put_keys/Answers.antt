@@ -1,5 +1,5 @@
 -- `node_sets::put_keys` meets its contract: as many keys as turns are there, and the tables below them are as before.
-use Prim.Native.Nat.{ℕ, ◌+◌, ◌-◌}
+use Prim.Native.Nat.{ℕ, ◌+◌}
 use mathlib.Core.Path.{◌≡◌, refl, sym, ap, ap₂, ◌∙◌, subst}
 use mathlib.Core.List.{List}
 use native.Mathlib.Omega.{arith}
@@ -17,11 +17,13 @@ pub loop-g-init : goal.loop-g-init
 loop-g-init c = (omega arith, refl, refl, refl)
 
 pub put_key-requires : goal.put_key-requires
-put_key-requires c = let at = c.loop-g in
+put_key-requires c =
+    let at = c.loop-g in
     (subst (Ringed c.args.l) (sym at.invariant.2) c.requires.0, c.requires.1, omega (arith, c.requires.2, at.invariant.1), c.loop-g-test.true)
 
 pub loop-g-preserved : goal.loop-g-preserved
-loop-g-preserved c = let a = c.args in
+loop-g-preserved c =
+    let a = c.args in
     let at = c.loop-g in
     let t = take a.l.at.bows a.work.now in
     let put = c.put_key.ensures in
@@ -39,7 +41,8 @@ pub shape_of-work : goal.shape_of-work
 shape_of-work c = c.loop-g.invariant.1
 
 pub returns : goal.returns
-returns c = let a = c.args in
+returns c =
+    let a = c.args in
     let at = c.loop-g in
     let e : at.g ≡ a.l.at.faces = omega (arith, c.loop-g-test.false, at.invariant.0) in
     at.invariant.3 ∙ ap (λ (n : ℕ). sets a.work.now a.l.keys (keys_of a.l (take a.l.at.bows a.work.now) n)) e

@@ -1,5 +1,5 @@
 -- `node_sets::put_rises` meets its contract. The invariant: what is left to be put, put behind what is there, is the whole.
-use Prim.Native.Nat.{ℕ, suc, ◌+◌, ◌-◌, ◌<◌}
+use Prim.Native.Nat.{ℕ, suc, ◌+◌, ◌<◌}
 use mathlib.Core.Path.{◌≡◌, refl, sym, ap, ◌∙◌}
 use mathlib.Core.List.{List}
 use native.Mathlib.Omega.{arith}
@@ -13,23 +13,32 @@ use Rattle.node_sets.proofs.Unique.{rises_same, rises_more, rises_end}
 use Rattle.node_sets.proofs.put_rises.Goals as goal
 
 pub loop-i-init : goal.loop-i-init
-loop-i-init c = let a = c.args in
+loop-i-init c =
+    let a = c.args in
     let z : a.s + 0 ≡ a.s = omega arith in
     (omega arith, omega arith, refl, refl, omega arith, ap (λ (o : ℕ). sets a.work.now o (rises leb a.x (region a.a a.n a.work.now))) z)
 
 pub loop-i-preserved-then-v-last : goal.loop-i-preserved-then-v-last
-loop-i-preserved-then-v-last c = let a = c.args in
+loop-i-preserved-then-v-last c =
+    let a = c.args in
     let at = c.loop-i in
     let R = region a.a a.n a.work.now in
     let v = get_or at.work (a.a + at.i) 0 in
     let long : length R ≡ a.n = length-region a.a a.n a.work.now (omega (arith, c.requires)) in
     let is : v ≡ get_or R at.i 0 = sym (get_or-region a.a a.n at.work at.i 0 c.loop-i-test.true) ∙ ap (λ (r : List ℕ). get_or r at.i 0) at.invariant.3 in
     let in-R : at.i < length R = omega (arith, c.loop-i-test.true) in
-    let same = rises_same R at.i at.last v in-R is (omega (arith, c.if-v-last.true)) in
-    (omega (arith, c.loop-i-test.true), omega (arith, at.invariant.1), at.invariant.2, at.invariant.3, ap (λ (r : List ℕ). at.k + length r) (sym same) ∙ at.invariant.4, ap (sets at.work (a.s + at.k)) (sym same) ∙ at.invariant.5)
+    let same = rises_same R at.i at.last v in-R is (omega (arith, c.if-v-last.true)) in (
+      omega (arith, c.loop-i-test.true),
+      omega (arith, at.invariant.1),
+      at.invariant.2,
+      at.invariant.3,
+      ap (λ (r : List ℕ). at.k + length r) (sym same) ∙ at.invariant.4,
+      ap (sets at.work (a.s + at.k)) (sym same) ∙ at.invariant.5,
+    )
 
 pub loop-i-preserved : goal.loop-i-preserved
-loop-i-preserved c = let a = c.args in
+loop-i-preserved c =
+    let a = c.args in
     let at = c.loop-i in
     let R = region a.a a.n a.work.now in
     let v = get_or at.work (a.a + at.i) 0 in
@@ -50,9 +59,13 @@ pub shape_of-work : goal.shape_of-work
 shape_of-work c = c.loop-i.invariant.2
 
 pub returns : goal.returns
-returns c = let a = c.args in
+returns c =
+    let a = c.args in
     let at = c.loop-i in
     let R = region a.a a.n a.work.now in
     let long : length R ≡ a.n = length-region a.a a.n a.work.now (omega (arith, c.requires)) in
-    let none = rises_end R at.i at.last (omega (arith, c.loop-i-test.false)) in
-    (omega (arith, at.invariant.4, ap length none), omega (arith, at.invariant.0, at.invariant.1), ap (sets at.work (a.s + at.k)) (sym none) ∙ at.invariant.5)
+    let none = rises_end R at.i at.last (omega (arith, c.loop-i-test.false)) in (
+      omega (arith, at.invariant.4, ap length none),
+      omega (arith, at.invariant.0, at.invariant.1),
+      ap (sets at.work (a.s + at.k)) (sym none) ∙ at.invariant.5,
+    )

@@ -32,7 +32,8 @@ loop-g-init c =
     )
 
 pub keep_face-n-requires : goal.keep_face-n-requires
-keep_face-n-requires c = let o = c.loop-g in
+keep_face-n-requires c =
+    let o = c.loop-g in
     let t = c.loop-g-test.true in
     let r = c.requires in
     let e = c.first_face-e.ensures in

@@ -38,7 +38,8 @@ returns-then-h-g c =
     sym (ap (λ (r : List ℕ). tallied a.g r o.s) k ∙ lower a.g h hs o.s c.if-h-g.true) ∙ o.invariant.3
 
 pub note-s-requires : goal.note-s-requires
-note-s-requires c = let o = c.loop-i in
+note-s-requires c =
+    let o = c.loop-i in
     omega (arith, o.invariant, c.requires.listed.few, c.loop-i-test.true)
 
 pub loop-i-preserved-then-same_key : goal.loop-i-preserved-then-same_key

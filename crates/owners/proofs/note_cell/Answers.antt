@@ -13,22 +13,32 @@ use Prim.Native.Nat.{ℕ, ◌+◌, ◌<◌}
 use Rattle.owners.proofs.note_cell.Goals as goal
 
 pub note_phed-requires : goal.note_phed-requires
-note_phed-requires c = let a = c.args in
+note_phed-requires c =
+    let a = c.args in
     (c.requires.2, subst (λ (rs : List (List ℕ)). a.count + length rs < 4294967296) (phed_is a.kind a.words.now c.if-kind-eq4.true) c.requires.3)
 
 pub returns-then-kind-eq4 : goal.returns-then-kind-eq4
-returns-then-kind-eq4 c = let a = c.args in
+returns-then-kind-eq4 c =
+    let a = c.args in
     noted_as (ap (holders a.key.now a.cell) (sym (phed_is a.kind a.words.now c.if-kind-eq4.true))) c.note_phed.ensures
 
 pub put_cell-n-requires : goal.put_cell-n-requires
-put_cell-n-requires c = let a = c.args in
+put_cell-n-requires c =
+    let a = c.args in
     (c.requires.0, omega (arith, fixed_total a.kind a.words.now c.requires.0 c.if-kind-eq4.false))
 
 pub slice_bounds-note_flat-end : goal.slice_bounds-note_flat-end
-slice_bounds-note_flat-end c = let a = c.args in
+slice_bounds-note_flat-end c =
+    let a = c.args in
     omega (arith, fixed_total a.kind a.words.now c.requires.0 c.if-kind-eq4.false, c.put_cell-n.ensures.0)
 
 pub note_flat-requires : goal.note_flat-requires
-note_flat-requires c = let a = c.args in
-    let p = c.put_cell-n.ensures in
-    (c.requires.0, c.requires.1, flat_front _ _ (rings_of (cell_with a.kind a.words.now)) _ (fixed_total a.kind a.words.now c.requires.0 c.if-kind-eq4.false) p.1 p.0, c.requires.2, c.requires.3)
+note_flat-requires c =
+    let a = c.args in
+    let p = c.put_cell-n.ensures in (
+      c.requires.0,
+      c.requires.1,
+      flat_front _ _ (rings_of (cell_with a.kind a.words.now)) _ (fixed_total a.kind a.words.now c.requires.0 c.if-kind-eq4.false) p.1 p.0,
+      c.requires.2,
+      c.requires.3,
+    )

@@ -15,33 +15,39 @@ pub tally_kind-t-requires : goal.tally_kind-t-requires
 tally_kind-t-requires c = (c.requires.1, c.requires.0.kind)
 
 pub loop-j-init : goal.loop-j-init
-loop-j-init c = let a = c.args in
+loop-j-init c =
+    let a = c.args in
     (noting_start a.owners.now a.count (holders a.key.now a.cell (rings_of (cell_with a.kind a.words.now))), omega arith)
 
 pub cell_span-s-requires : goal.cell_span-s-requires
 cell_span-s-requires c = (c.requires.0, omega (arith, c.tally_kind-t.ensures.faces), c.requires.1)
 
 pub overflow_add-end : goal.overflow_add-end
-overflow_add-end c = let a = c.args in
+overflow_add-end c =
+    let a = c.args in
     let h = flat_end a.kind a.words.now c.loop-j.j _ c.requires.0 (omega (arith, c.tally_kind-t.ensures.faces)) c.cell_span-s.ensures in
     omega (arith, h, ap length c.requires.2)
 
 pub offset_bounds-flat-start : goal.offset_bounds-flat-start
-offset_bounds-flat-start c = let a = c.args in
+offset_bounds-flat-start c =
+    let a = c.args in
     let h = flat_end a.kind a.words.now c.loop-j.j _ c.requires.0 (omega (arith, c.tally_kind-t.ensures.faces)) c.cell_span-s.ensures in
     omega (arith, h, ap length c.requires.2)
 
 pub slice_bounds-note-end : goal.slice_bounds-note-end
-slice_bounds-note-end c = let a = c.args in
+slice_bounds-note-end c =
+    let a = c.args in
     let h = flat_end a.kind a.words.now c.loop-j.j _ c.requires.0 (omega (arith, c.tally_kind-t.ensures.faces)) c.cell_span-s.ensures in
     omega (arith, h, ap length c.requires.2)
 
 pub note-k-requires : goal.note-k-requires
-note-k-requires c = let a = c.args in
+note-k-requires c =
+    let a = c.args in
     (c.requires.3, omega (arith, c.requires.4, c.loop-j.invariant.0.count, holders_few a.key.now a.cell (rings_of (cell_with a.kind a.words.now))))
 
 pub loop-j-preserved : goal.loop-j-preserved
-loop-j-preserved c = let a = c.args in
+loop-j-preserved c =
+    let a = c.args in
     let l = c.loop-j in
     let h : l.j < length (rings_of (cell_with a.kind a.words.now)) = omega (arith, c.tally_kind-t.ensures.faces) in
     let p = c.cell_span-s in
@@ -55,6 +61,7 @@ pub shape_of-owners : goal.shape_of-owners
 shape_of-owners c = c.loop-j.invariant.0.same
 
 pub returns : goal.returns
-returns c = let a = c.args in
+returns c =
+    let a = c.args in
     let l = c.loop-j in
     rings_end (rings_of (cell_with a.kind a.words.now)) a.key.now a.cell a.count a.owners.now l.owners l.k l.j l.invariant.0 (omega (arith, c.tally_kind-t.ensures.faces))

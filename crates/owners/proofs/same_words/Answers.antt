@@ -10,16 +10,19 @@ pub loop-i-init : goal.loop-i-init
 loop-i-init c = (omega arith, refl)
 
 pub returns-then-a-i : goal.returns-then-a-i
-returns-then-a-i c = let a = c.args in
+returns-then-a-i c =
+    let a = c.args in
     let l = c.loop-i in
     sym (sym l.invariant.1 ∙ eql_unlike a.a.now a.b.now l.i (omega arith) (omega arith) c.if-a-i.true)
 
 pub loop-i-preserved : goal.loop-i-preserved
-loop-i-preserved c = let a = c.args in
+loop-i-preserved c =
+    let a = c.args in
     let l = c.loop-i in
     (omega arith, sym (eql_like a.a.now a.b.now l.i (omega arith) (omega arith) c.if-a-i.false) ∙ l.invariant.1)
 
 pub returns : goal.returns
-returns c = let a = c.args in
+returns c =
+    let a = c.args in
     let l = c.loop-i in
     sym (sym l.invariant.1 ∙ eql_over a.a.now a.b.now l.i (omega arith) (omega arith))

@@ -5,7 +5,8 @@ use Rattle.pairs.proofs.Again.{ready_again}
 use Rattle.pairs.proofs.candidates_of.Goals as goal
 
 pub returns-then-by_nodes : goal.returns-then-by_nodes
-returns-then-by_nodes c = let a = c.args in
+returns-then-by_nodes c =
+    let a = c.args in
     let f = c.seek_by_nodes in
     record {
       sought_by = record { way = f.ensures.way ∙ sym c.if-by_nodes.true; sought = f.ensures.sought };
@@ -13,7 +14,8 @@ returns-then-by_nodes c = let a = c.args in
     }
 
 pub returns : goal.returns
-returns c = let a = c.args in
+returns c =
+    let a = c.args in
     let f = c.seek_by_triples in
     record {
       sought_by = record { way = f.ensures.way ∙ sym c.if-by_nodes.false; sought = f.ensures.sought };

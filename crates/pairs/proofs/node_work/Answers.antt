@@ -19,23 +19,29 @@ use Rattle.pairs.proofs.node_work.Goals as goal
 -- how many words are below n and how often n stands there, at most all
 room : (p : Places) (b : List ℕ) → Indexed p b → Few p → (n : ℕ)
     → (below (n + 1) (words_of p (input p b)) ≡ below n (words_of p (input p b)) + times n (words_of p (input p b))) × (below (n + 1) (words_of p (input p b)) ≤ 2 ^ 20)
-room p b ix few n =
-    (ap (λ (k : ℕ). below k (words_of p (input p b))) (add-one n) ∙ below_suc n (words_of p (input p b)), omega (arith, below_words p b ix (n + 1), few.words))
+room p b ix few n = (
+  ap (λ (k : ℕ). below k (words_of p (input p b))) (add-one n) ∙ below_suc n (words_of p (input p b)),
+  omega (arith, below_words p b ix (n + 1), few.words),
+)
 
 pub loop-n-init : goal.loop-n-init
 unfolding node_work
-loop-n-init c = let a = c.args in (omega arith, omega arith, left_all (f a.at a.base.now) a.at.nodes)
+loop-n-init c =
+    let a = c.args in (omega arith, omega arith, left_all (f a.at a.base.now) a.at.nodes)
 
 pub pairs_of-total-requires : goal.pairs_of-total-requires
-pairs_of-total-requires c = let a = c.args in
+pairs_of-total-requires c =
+    let a = c.args in
     omega (arith, c.list_length.ensures, room a.at a.base.now c.requires.indexed c.requires.few c.loop-n.n)
 
 pub overflow_add-total : goal.overflow_add-total
-overflow_add-total c = let a = c.args in
+overflow_add-total c =
+    let a = c.args in
     omega (arith, c.loop-n.invariant.1, c.pairs_of-total.ensures.1, c.list_length.ensures, room a.at a.base.now c.requires.indexed c.requires.few c.loop-n.n)
 
 pub loop-n-preserved : goal.loop-n-preserved
-loop-n-preserved c = let a = c.args in
+loop-n-preserved c =
+    let a = c.args in
     let l = c.loop-n in
     let t = input a.at a.base.now in (
       omega arith,
@@ -45,6 +51,7 @@ loop-n-preserved c = let a = c.args in
     )
 
 pub returns : goal.returns
-returns c = let a = c.args in
+returns c =
+    let a = c.args in
     let l = c.loop-n in
     left_end (f a.at a.base.now) a.at.nodes l.n l.total (node_work a.at (input a.at a.base.now)) c.loop-n-test.false l.invariant.2

@@ -10,10 +10,12 @@ use Rattle.pairs.proofs.triple_work.Goals as goal
 
 pub loop-g-init : goal.loop-g-init
 unfolding triple_work
-loop-g-init c = let a = c.args in (omega arith, omega arith, left_all (f a.at a.base.now) a.at.faces)
+loop-g-init c =
+    let a = c.args in (omega arith, omega arith, left_all (f a.at a.base.now) a.at.faces)
 
 pub triples_of-total-requires : goal.triples_of-total-requires
-triples_of-total-requires c = let a = c.args in
+triples_of-total-requires c =
+    let a = c.args in
     let l = c.loop-g in
     omega (arith, c.set_size.ensures, c.requires.indexed.laid.few l.g c.loop-g-test.true)
 
@@ -21,7 +23,8 @@ pub overflow_add-total : goal.overflow_add-total
 overflow_add-total c = omega (arith, c.loop-g.invariant.1, c.loop-g-test.true, c.triples_of-total.ensures.1, c.requires.few.faces)
 
 pub loop-g-preserved : goal.loop-g-preserved
-loop-g-preserved c = let a = c.args in
+loop-g-preserved c =
+    let a = c.args in
     let l = c.loop-g in (
       omega arith,
       omega (arith, l.invariant.1, c.triples_of-total.ensures.1),
@@ -29,6 +32,9 @@ loop-g-preserved c = let a = c.args in
     )
 
 pub returns : goal.returns
-returns c = let a = c.args in
-    let l = c.loop-g in
-    (left_end (f a.at a.base.now) a.at.faces l.g l.total (triple_work a.at (input a.at a.base.now)) c.loop-g-test.false l.invariant.2, omega (arith, l.invariant.0, l.invariant.1, c.requires.few.faces))
+returns c =
+    let a = c.args in
+    let l = c.loop-g in (
+      left_end (f a.at a.base.now) a.at.faces l.g l.total (triple_work a.at (input a.at a.base.now)) c.loop-g-test.false l.invariant.2,
+      omega (arith, l.invariant.0, l.invariant.1, c.requires.few.faces),
+    )

@@ -8,16 +8,27 @@ use Rattle.partially_shared.proofs.Sorted.{sorted_search, sorted_rising, sorted_
 use Rattle.partially_shared.proofs.keep_listed.Goals as goal
 
 pub keep_sorted-requires : goal.keep_sorted-requires
-keep_sorted-requires c = let a = c.args in
+keep_sorted-requires c =
+    let a = c.args in
     let w = a.work.now in
     let q = c.requires.c_bound in
     let y = c.sort_pairs in
-    let u = y.new.work in record { searching = sorted_search a.l w a.count c.requires.searching q.1 u y.ensures; c_bound = (q.0, q.1, q.2, sorted_fit a.l w a.count c.requires.searching q.1 u y.ensures q.3, sorted_listed a.l w a.count c.requires.searching q.1 u y.ensures q.4, sorted_rising a.l w a.count c.requires.searching q.1 u y.ensures); room_in_bounds = c.requires.room_in_bounds }
+    let u = y.new.work in
+    record {
+      searching = sorted_search a.l w a.count c.requires.searching q.1 u y.ensures;
+      c_bound = (q.0, q.1, q.2, sorted_fit a.l w a.count c.requires.searching q.1 u y.ensures q.3, sorted_listed a.l w a.count c.requires.searching q.1 u y.ensures q.4, sorted_rising a.l w a.count c.requires.searching q.1 u y.ensures);
+      room_in_bounds = c.requires.room_in_bounds;
+    }
 
 pub returns : goal.returns
-returns c = let a = c.args in
+returns c =
+    let a = c.args in
     let w = a.work.now in
     let h = c.requires.c_bound.1 in
     let y = c.sort_pairs in
     let z = c.keep_sorted in
-    let u = y.new.work in record { kept_any = λ tol. subst (λ (xs : List Finding). Kept (plain_rules a.coords.now tol) a.room a.n xs a.findings.now z.new.findings z.result) (sorted_tells a.l w a.count c.requires.searching h u y.ensures a.c) (z.ensures.kept_any tol); cleared = (sorted_cleared a.l w a.count c.requires.searching h u y.ensures z.new.work z.ensures.cleared.0, z.ensures.cleared.1) }
+    let u = y.new.work in
+    record {
+      kept_any = λ tol. subst (λ (xs : List Finding). Kept (plain_rules a.coords.now tol) a.room a.n xs a.findings.now z.new.findings z.result) (sorted_tells a.l w a.count c.requires.searching h u y.ensures a.c) (z.ensures.kept_any tol);
+      cleared = (sorted_cleared a.l w a.count c.requires.searching h u y.ensures z.new.work z.ensures.cleared.0, z.ensures.cleared.1);
+    }

@@ -11,30 +11,40 @@ use Rattle.partially_shared.proofs.Told.{told_fields, told_centre}
 use Rattle.partially_shared.proofs.keep_pair.Goals as goal
 
 pub slice_bounds-shared_of-end : goal.slice_bounds-shared_of-end
-slice_bounds-shared_of-end c = let p = c.requires.searching.spaced in
+slice_bounds-shared_of-end c =
+    let p = c.requires.searching.spaced in
     sym (length-take-le c.args.l.at.found c.args.work.now (omega (arith, p.marks_at, p.others_at, p.last_at, p.pairs_at, p.spare_at, p.ends)))
 
 pub shared_of-s-requires : goal.shared_of-s-requires
-shared_of-s-requires c = let q = c.requires.c_bound in
-    record { indexed = c.requires.searching.indexed; f_lt_faces = (omega (arith, c.wide-f.ensures, q.3, q.4), omega (arith, c.wide-g.ensures, q.5)); nodes_value = q.2 }
+shared_of-s-requires c =
+    let q = c.requires.c_bound in
+    record {
+      indexed = c.requires.searching.indexed;
+      f_lt_faces = (omega (arith, c.wide-f.ensures, q.3, q.4), omega (arith, c.wide-g.ensures, q.5));
+      nodes_value = q.2;
+    }
 
 pub narrow-requires : goal.narrow-requires
-narrow-requires c = let q = c.requires.c_bound in
+narrow-requires c =
+    let q = c.requires.c_bound in
     let sp = c.requires.searching.spaced in
     omega (arith, q.0, sp.few_cells)
 
 pub narrow-requires-2 : goal.narrow-requires-2
-narrow-requires-2 c = let q = c.requires.c_bound in
+narrow-requires-2 c =
+    let q = c.requires.c_bound in
     let sp = c.requires.searching.spaced in
     omega (arith, q.1, sp.few_cells)
 
 pub narrow-requires-3 : goal.narrow-requires-3
-narrow-requires-3 c = let q = c.requires.c_bound in
+narrow-requires-3 c =
+    let q = c.requires.c_bound in
     let sp = c.requires.searching.spaced in
     omega (arith, c.wide-f.ensures, q.4, sp.few_faces)
 
 pub narrow-requires-4 : goal.narrow-requires-4
-narrow-requires-4 c = let q = c.requires.c_bound in
+narrow-requires-4 c =
+    let q = c.requires.c_bound in
     let sp = c.requires.searching.spaced in
     omega (arith, c.wide-g.ensures, q.5, sp.few_faces)
 

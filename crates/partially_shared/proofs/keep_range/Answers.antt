@@ -11,7 +11,8 @@ use Rattle.partially_shared.proofs.Cleared.{clearing_start, keeps_start, telling
 use Rattle.partially_shared.proofs.keep_range.Goals as goal
 
 pub loop-b-init : goal.loop-b-init
-loop-b-init c = let a = c.args in
+loop-b-init c =
+    let a = c.args in
     let w = a.work.now in (
       record {
         clearing = clearing_start a.l w a.r.lo;
@@ -27,17 +28,23 @@ loop-b-init c = let a = c.args in
     )
 
 pub keep_marked-k-requires : goal.keep_marked-k-requires
-keep_marked-k-requires c = let a = c.args in
+keep_marked-k-requires c =
+    let a = c.args in
     let q = c.requires.c_bound in
     let o = c.loop-b in
     let h = c.loop-b-test.true in
     let low : o.b < a.l.at.cell_count = omega (arith, h, q.1) in
     let same = o.invariant.0.clearing.same o.b low (omega arith) in
     let fits : MarkFits a.l o.work o.b = λ z. let y = q.3 o.b low (λ e. z (same.0 ∙ e)) in (omega (arith, y.0, same.0), omega (arith, y.1, same.1)) in
-    record { searching = o.invariant.0.search; c_bound = (q.0, low, q.2, fits); room_in_bounds = (omega (arith, c.requires.room_in_bounds.0, o.invariant.2), omega (arith, o.invariant.0.few, low, c.requires.room_in_bounds.1, c.requires.searching.spaced.few_cells)) }
+    record {
+      searching = o.invariant.0.search;
+      c_bound = (q.0, low, q.2, fits);
+      room_in_bounds = (omega (arith, c.requires.room_in_bounds.0, o.invariant.2), omega (arith, o.invariant.0.few, low, c.requires.room_in_bounds.1, c.requires.searching.spaced.few_cells));
+    }
 
 pub loop-b-preserved : goal.loop-b-preserved
-loop-b-preserved c = let a = c.args in
+loop-b-preserved c =
+    let a = c.args in
     let w = a.work.now in
     let q = c.requires.c_bound in
     let o = c.loop-b in
@@ -48,7 +55,8 @@ loop-b-preserved c = let a = c.args in
     (next, next.clearing.beside.long, next.long, omega (arith, o.invariant.3, h))
 
 pub returns : goal.returns
-returns c = let a = c.args in
+returns c =
+    let a = c.args in
     let o = c.loop-b in
     let w = a.work.now in
     let done : o.b - a.r.lo ≡ a.r.hi - a.r.lo = omega (arith, o.invariant.3, c.loop-b-test.false) in

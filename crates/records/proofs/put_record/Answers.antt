@@ -10,7 +10,8 @@ use Rattle.records.proofs.put_record.Goals as goal
 
 pub returns : goal.returns
 unfolding record_bytes
-returns c = let a = c.args in
+returns c =
+    let a = c.args in
     let o = a.out.now in
     ap (λ (x : List ℕ). take a.at o ++ (x ++ drop (a.at + 64 - a.at) (drop a.at o))) c.put_whole.ensures
     ∙ lent_sets 64 o (record_bytes (told a.r) a.centre) a.at refl c.requires

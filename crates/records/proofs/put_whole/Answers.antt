@@ -13,7 +13,8 @@ use Rattle.records.proofs.put_whole.Goals as goal
 
 pub returns : goal.returns
 unfolding record_bytes
-returns c = let a = c.args in
+returns c =
+    let a = c.args in
     let s = a.s.now in
     let f = told a.r in
     let rest : (List ℕ → List ℕ) = λ l. sets (sets (sets (sets l 4 (field_bytes f)) 24 (bytes 8 0)) 32 (point_bytes a.centre)) 56 (bytes 8 0) in

@@ -7,7 +7,8 @@ use Rattle.laws.specs.Bytes.{bytes}
 use Rattle.records.proofs.put_words.Goals as goal
 
 pub returns : goal.returns
-returns c = let r = c.args.r in
+returns c =
+    let r = c.args.r in
     c.put_bytes-5.ensures
     ∙ ap (λ (l : List ℕ). sets l 20 (bytes 4 r.count)) (c.put_bytes-4.ensures
     ∙ ap (λ (l : List ℕ). sets l 16 (bytes 4 r.b)) (c.put_bytes-3.ensures

@@ -10,12 +10,8 @@ use Rattle.repeated_nodes.proofs.keep_nodes.Goals as goal
 
 pub returns : goal.returns
 unfolding fields_of centre_in rules_with
-returns c tol = let second = c in
-    let first = second in
-    let mid = first in
-    let q = mid in
-    let p = q in
-    let a = p.args in
+returns c tol =
+    let a = c.args in
     c.keep_record.ensures (plain_rules a.coords.now tol) (repeated a.c a.a a.b)
-    (λ i. record { kind = 4; first = sym first.narrow.ensures i; second = sym second.narrow-2.ensures i; a = a.a; b = a.b; count = 2 })
-    (sym (mid.midpoint-middle.ensures ∙ ap₂ (λ (s t : Point). midpoint_of s t) p.point3-first.ensures q.point3-second.ensures))
+    (λ i. record { kind = 4; first = sym c.narrow.ensures i; second = sym c.narrow-2.ensures i; a = a.a; b = a.b; count = 2 })
+    (sym (c.midpoint-middle.ensures ∙ ap₂ (λ (s t : Point). midpoint_of s t) c.point3-first.ensures c.point3-second.ensures))

@@ -1,5 +1,5 @@
 -- `repeated_nodes::keep_pairs` meets its contract. The invariant: the findings of the first i pairs are kept.
-use Prim.Native.Nat.{◌+◌, ◌-◌, ◌*◌, ◌/◌}
+use Prim.Native.Nat.{◌+◌, ◌*◌, ◌/◌}
 use borrow.Author.Rules.{rules}
 use lib.ListN.{length}
 use lib.Ieee.{nan}
@@ -11,11 +11,13 @@ use Rattle.repeated_nodes.proofs.Listed.{word_below, kept_next}
 use Rattle.repeated_nodes.proofs.keep_pairs.Goals as goal
 
 pub loop-i-init : goal.loop-i-init
-loop-i-init c = let a = c.args in
+loop-i-init c =
+    let a = c.args in
     (omega arith, omega arith, refl, λ tol. kept_none (plain_rules a.coords.now tol) a.room a.n a.findings.now)
 
 pub keep_nodes-k-requires : goal.keep_nodes-k-requires
-keep_nodes-k-requires c = let a = c.args in
+keep_nodes-k-requires c =
+    let a = c.args in
     let i = c.loop-i.i in
     let t = c.loop-i-test.true in
     let e : a.at + 2 * i + 1 ≡ a.at + (2 * i + 1) = omega arith in
@@ -29,7 +31,8 @@ keep_nodes-k-requires c = let a = c.args in
     }
 
 pub loop-i-preserved : goal.loop-i-preserved
-loop-i-preserved c = let a = c.args in
+loop-i-preserved c =
+    let a = c.args in
     let call = c.keep_nodes-k in (
       omega (arith, c.loop-i.invariant.0),
       omega (arith, (call.ensures nan).count, c.loop-i.invariant.1),
@@ -38,6 +41,7 @@ loop-i-preserved c = let a = c.args in
     )
 
 pub returns : goal.returns
-returns c = let a = c.args in
+returns c =
+    let a = c.args in
     let e : c.loop-i.i ≡ a.m = omega (arith, c.loop-i.invariant.0, c.loop-i-test.false) in
     record { kept_any = (λ tol. rw e at (c.loop-i.invariant.3 tol)); value = omega (arith, c.loop-i.invariant.1, e) }

@@ -7,11 +7,13 @@ use Rattle.repeated_nodes.proofs.Scratch.{ready, pairs_in_lem, pairs_below, pair
 use Rattle.repeated_nodes.proofs.keep_repeated.Goals as goal
 
 pub list_repeats-m-requires : goal.list_repeats-m-requires
-list_repeats-m-requires c = let a = c.args in
+list_repeats-m-requires c =
+    let a = c.args in
     ready a.l a.work.now a.words.now c.requires.standing c.requires.c_bound.2 c.requires.c_bound.3
 
 pub keep_pairs-requires : goal.keep_pairs-requires
-keep_pairs-requires c = let a = c.args in
+keep_pairs-requires c =
+    let a = c.args in
     let p = c.requires.c_bound in
     let sp = c.requires.standing.spaced in
     let v = c.list_repeats-m.new.work in
@@ -26,7 +28,8 @@ keep_pairs-requires c = let a = c.args in
     }
 
 pub returns : goal.returns
-returns c = let a = c.args in
+returns c =
+    let a = c.args in
     let p = c.requires.c_bound in
     let v = c.list_repeats-m.new.work in
     let m = c.list_repeats-m.result in

@@ -1,5 +1,5 @@
 -- What is still to be found and marked, done to what stands here, is all that is found and marked.
-use Prim.Native.Nat.{◌+◌, ◌-◌, ◌≤◌, ◌<◌}
+use Prim.Native.Nat.{◌+◌, ◌≤◌, ◌<◌}
 use mathlib.Core.Path.{◌≡◌, refl, sym, ◌∙◌}
 use mathlib.Core.List.{[], ◌∷◌}
 use native.Mathlib.Nat.{add-zero}
@@ -17,9 +17,17 @@ pub loop-i-init : goal.loop-i-init
 loop-i-init c = (search rules, search rules, refl, refl, c.requires.inside, omega arith, rw (add-zero c.args.at.pairs))
 
 pub loop-i-preserved-then-n : goal.loop-i-preserved-then-n
-loop-i-preserved-then-n c = let ws = c.args.words.now in
-    let skip = nodes_skip ws c.loop-i.i (omega arith) c.if-n.true in
-    (search rules, search rules, c.loop-i.invariant.2, c.loop-i.invariant.3, rw skip at c.loop-i.invariant.4, rw skip at c.loop-i.invariant.5, rw skip at c.loop-i.invariant.6)
+loop-i-preserved-then-n c =
+    let ws = c.args.words.now in
+    let skip = nodes_skip ws c.loop-i.i (omega arith) c.if-n.true in (
+      search rules,
+      search rules,
+      c.loop-i.invariant.2,
+      c.loop-i.invariant.3,
+      rw skip at c.loop-i.invariant.4,
+      rw skip at c.loop-i.invariant.5,
+      rw skip at c.loop-i.invariant.6,
+    )
 
 pub note-k-requires : goal.note-k-requires
 note-k-requires c =
@@ -30,7 +38,7 @@ note-k-requires c =
     let a = c.args in
     let f = c.requires.first in
     let g : a.at.last ≤ length a.work.now = omega arith in
-    let h = (below).0 in
+    let h = below.0 in
     record {
       numbered =
           record {
@@ -84,7 +92,8 @@ pub shape_of-work : goal.shape_of-work
 shape_of-work c = c.loop-i.invariant.2
 
 pub returns : goal.returns
-returns c = let a = c.args in
+returns c =
+    let a = c.args in
     let w = c.loop-i.work in
     let ws = a.words.now in
     let done : drop c.loop-i.i ws ≡ [] = drop_of_length-le ws {i = c.loop-i.i} (omega arith) in

@@ -4,7 +4,8 @@ use borrow.Author.Rules.{rules}
 use Rattle.repeats.proofs.list_repeats.Goals as goal
 
 pub forget-requires : goal.forget-requires
-forget-requires c = let a = c.args in
+forget-requires c =
+    let a = c.args in
     let f = c.find_pairs-found in
     record {
       first = c.requires.first;
@@ -16,7 +17,8 @@ forget-requires c = let a = c.args in
     }
 
 pub returns : goal.returns
-returns c = let a = c.args in
+returns c =
+    let a = c.args in
     let f = c.find_pairs-found in
     let u = c.unique_pairs in
     listed a.at a.words.now a.work.now f.new.work f.result c.requires f.ensures

@@ -13,14 +13,16 @@ pub put_hit-requires : goal.put_hit-requires
 put_hit-requires c = (simp length-set (omega arith), omega arith)
 
 pub overflow_add-result : goal.overflow_add-result
-overflow_add-result c = let a = c.args in
+overflow_add-result c =
+    let a = c.args in
     omega (arith, c.put_hit.ensures.0, hit_short a.n (get_or a.work.now c.place-m.result 0))
 
 pub shape_of-work : goal.shape_of-work
 shape_of-work c = rw c.put_hit.ensures.1 (simp (length-sets, length-set))
 
 pub returns : goal.returns
-returns c = let a = c.args in
+returns c =
+    let a = c.args in
     let w = a.work.now in
     let e = c.place-m.ensures in
     record {

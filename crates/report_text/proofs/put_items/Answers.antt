@@ -6,7 +6,8 @@ use Rattle.report_text.proofs.Texts.{behind}
 use Rattle.report_text.proofs.put_items.Goals as goal
 
 pub returns : goal.returns
-returns c = let a = c.args in
+returns c =
+    let a = c.args in
     let p = c.put_spaced-p in
     let q = c.put_spaced-q in
     let r = c.put_last in

@@ -7,7 +7,8 @@ use Rattle.report_text.proofs.put_line.Goals as goal
 
 pub returns : goal.returns
 unfolding line_of
-returns c = let a = c.args in
+returns c =
+    let a = c.args in
     let f = a.f in
     let p = c.put_decimal-p in
     let q = c.put_spaced-q in

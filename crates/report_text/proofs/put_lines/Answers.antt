@@ -1,5 +1,5 @@
 -- `report_text::put_lines` meets its contract. The invariant: the lines of the first i records are stored.
-use Prim.Native.Nat.{ℕ, ◌-◌}
+use Prim.Native.Nat.{ℕ}
 use borrow.Author.Rules.{rules}
 use mathlib.Core.Path.{◌≡◌, refl, subst}
 use native.Mathlib.Omega.{arith}
@@ -14,7 +14,8 @@ pub loop-i-init : goal.loop-i-init
 loop-i-init c = (omega arith, omega arith, refl, (refl, refl))
 
 pub loop-i-preserved : goal.loop-i-preserved
-loop-i-preserved c = let a = c.args in
+loop-i-preserved c =
+    let a = c.args in
     let line = c.put_line-p in
     let f = c.fields_at-f in (
       omega arith,
@@ -24,6 +25,9 @@ loop-i-preserved c = let a = c.args in
     )
 
 pub returns : goal.returns
-returns c = let a = c.args in
-    let e : c.loop-i.i ≡ a.kept = omega (arith, c.loop-i.invariant.0, c.loop-i-test.false) in
-    (subst (λ (n : ℕ). Stored a.out.now 0 (each line_of (fields_kept a.findings.now n)) c.loop-i.out c.loop-i.p) e c.loop-i.invariant.3, omega (arith, c.loop-i.invariant.1, e))
+returns c =
+    let a = c.args in
+    let e : c.loop-i.i ≡ a.kept = omega (arith, c.loop-i.invariant.0, c.loop-i-test.false) in (
+      subst (λ (n : ℕ). Stored a.out.now 0 (each line_of (fields_kept a.findings.now n)) c.loop-i.out c.loop-i.p) e c.loop-i.invariant.3,
+      omega (arith, c.loop-i.invariant.1, e),
+    )

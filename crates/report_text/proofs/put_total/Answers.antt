@@ -8,7 +8,8 @@ use Rattle.report_text.proofs.put_total.Goals as goal
 
 pub returns : goal.returns
 unfolding total_line
-returns c = let a = c.args in
+returns c =
+    let a = c.args in
     let p = c.put_text-p in
     let q = c.put_spaced-q in
     let s = c.put_text-s in

@@ -14,7 +14,8 @@ use Prim.Native.Nat.{◌≤◌}
 use Rattle.ring_lists.proofs.fill_ring_lists.Goals as goal
 
 pub returns-then-t-ne0 : goal.returns-then-t-ne0
-returns-then-t-ne0 c = let a = c.args in
+returns-then-t-ne0 c =
+    let a = c.args in
     let m = model_of a.coords.now a.kinds.now a.ends.now a.words.now a.tol a.checks.0 0 in
     let t = c.accept-t in
     let z = c.if-t-ne0.true in
@@ -22,15 +23,22 @@ returns-then-t-ne0 c = let a = c.args in
     refused_so m a.raw.now a.welded.now a.work.now _ (row_model m a.raw.now a.welded.now a.work.now (λ y. z (e ∙ y)) ∙ sym e) z
 
 pub work_needed-need-requires : goal.work_needed-need-requires
-work_needed-need-requires c = let a = c.args in
+work_needed-need-requires c =
+    let a = c.args in
     let m = model_of a.coords.now a.kinds.now a.ends.now a.words.now a.tol a.checks.0 0 in
     let t = c.accept-t in
     let ok = sym t.ensures.refusal ∙ c.if-t-ne0.false in
-    let k = accepts m ok in
-    (t.ensures.small, t.ensures.few, omega (arith, ltb-false cell_limit (length a.kinds.now) k.cells), omega (arith, few_nodes m k), omega (arith, ltb-false word_limit (length a.words.now) k.words))
+    let k = accepts m ok in (
+      t.ensures.small,
+      t.ensures.few,
+      omega (arith, ltb-false cell_limit (length a.kinds.now) k.cells),
+      omega (arith, few_nodes m k),
+      omega (arith, ltb-false word_limit (length a.words.now) k.words),
+    )
 
 pub returns-then-work-need : goal.returns-then-work-need
-returns-then-work-need c = let a = c.args in
+returns-then-work-need c =
+    let a = c.args in
     let m = model_of a.coords.now a.kinds.now a.ends.now a.words.now a.tol a.checks.0 0 in
     let t = c.accept-t in
     let z = c.if-t-ne0.false in
@@ -40,7 +48,8 @@ returns-then-work-need c = let a = c.args in
     refused_so m a.raw.now a.welded.now a.work.now 11 (row_work m a.raw.now a.welded.now a.work.now ok (omega (arith, w, c.if-work-need.true))) (λ y. omega arith)
 
 pub returns-then-raw-t : goal.returns-then-raw-t
-returns-then-raw-t c = let a = c.args in
+returns-then-raw-t c =
+    let a = c.args in
     let m = model_of a.coords.now a.kinds.now a.ends.now a.words.now a.tol a.checks.0 0 in
     let t = c.accept-t in
     let z = c.if-t-ne0.false in
@@ -50,7 +59,8 @@ returns-then-raw-t c = let a = c.args in
     refused_so m a.raw.now a.welded.now a.work.now 4 (row_raw m a.raw.now a.welded.now a.work.now ok (omega (arith, w, c.if-work-need.false)) (omega (arith, r, c.if-raw-t.true))) (λ y. omega arith)
 
 pub returns-then-welded-t : goal.returns-then-welded-t
-returns-then-welded-t c = let a = c.args in
+returns-then-welded-t c =
+    let a = c.args in
     let m = model_of a.coords.now a.kinds.now a.ends.now a.words.now a.tol a.checks.0 0 in
     let t = c.accept-t in
     let z = c.if-t-ne0.false in
@@ -60,7 +70,8 @@ returns-then-welded-t c = let a = c.args in
     refused_so m a.raw.now a.welded.now a.work.now 4 (row_welded m a.raw.now a.welded.now a.work.now ok (omega (arith, w, c.if-work-need.false)) (omega (arith, r, c.if-raw-t.false)) (omega (arith, r, c.if-welded-t.true))) (λ y. omega arith)
 
 pub store-requires : goal.store-requires
-store-requires c = let a = c.args in
+store-requires c =
+    let a = c.args in
     let m = model_of a.coords.now a.kinds.now a.ends.now a.words.now a.tol a.checks.0 0 in
     let t = c.accept-t in
     let z = c.if-t-ne0.false in
@@ -82,7 +93,8 @@ pub shape_of-work : goal.shape_of-work
 shape_of-work c = c.store.auto.work
 
 pub returns : goal.returns
-returns c = let a = c.args in
+returns c =
+    let a = c.args in
     let m = model_of a.coords.now a.kinds.now a.ends.now a.words.now a.tol a.checks.0 0 in
     let t = c.accept-t in
     let z = c.if-t-ne0.false in

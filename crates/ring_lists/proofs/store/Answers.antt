@@ -17,43 +17,52 @@ use mathlib.Core.Path.{subst}
 use Rattle.ring_lists.proofs.store.Goals as goal
 
 pub put_cells-r-requires : goal.put_cells-r-requires
-put_cells-r-requires c = let a = c.args in
+put_cells-r-requires c =
+    let a = c.args in
     let m = model_of a.coords.now a.kinds.now a.ends.now a.words.now a.tol a.checks.0 0 in
     let ok = c.requires.0 in
     let k = accepts m ok in
     (k.paired, k.ends, cells_well m ok, omega (arith, raw_total m ok, c.requires.3))
 
 pub weld_named-requires : goal.weld_named-requires
-weld_named-requires c = let a = c.args in
+weld_named-requires c =
+    let a = c.args in
     let m = model_of a.coords.now a.kinds.now a.ends.now a.words.now a.tol a.checks.0 0 in
     let ok = c.requires.0 in
     let k = accepts m ok in
     (refl, omega (arith, work_room m, c.requires.1, c.requires.2), omega (arith, few_nodes m k), k.places, words_low m k)
 
 pub slice_bounds-put_welded-end : goal.slice_bounds-put_welded-end
-slice_bounds-put_welded-end c = let a = c.args in
+slice_bounds-put_welded-end c =
+    let a = c.args in
     let m = model_of a.coords.now a.kinds.now a.ends.now a.words.now a.tol a.checks.0 0 in
     let ok = c.requires.0 in
     let p = c.put_cells-r in
     omega (arith, p.ensures.0, raw_total m ok, c.requires.3, p.auto.out)
 
 pub put_welded-requires : goal.put_welded-requires
-put_welded-requires c = let a = c.args in
+put_welded-requires c =
+    let a = c.args in
     let m = model_of a.coords.now a.kinds.now a.ends.now a.words.now a.tol a.checks.0 0 in
     let ok = c.requires.0 in
     let p = c.put_cells-r in
     let f = front m ok a.raw.now _ c.requires.3 p.ensures.1 _ p.ensures.0 in
-    let w = c.weld_named.auto.work in
-    (omega (arith, ap length f, c.requires.4), subst (AllBelow (node_count a.coords.now)) (sym f) (raw_below m ok), omega (arith, w, work_room m, c.requires.1, c.requires.2))
+    let w = c.weld_named.auto.work in (
+      omega (arith, ap length f, c.requires.4),
+      subst (AllBelow (node_count a.coords.now)) (sym f) (raw_below m ok),
+      omega (arith, w, work_room m, c.requires.1, c.requires.2),
+    )
 
 pub clear-requires : goal.clear-requires
-clear-requires c = let a = c.args in
+clear-requires c =
+    let a = c.args in
     let m = model_of a.coords.now a.kinds.now a.ends.now a.words.now a.tol a.checks.0 0 in
     let ok = c.requires.0 in
     omega (arith, c.weld_named.auto.work, c.requires.2)
 
 pub returns : goal.returns
-returns c = let a = c.args in
+returns c =
+    let a = c.args in
     let m = model_of a.coords.now a.kinds.now a.ends.now a.words.now a.tol a.checks.0 0 in
     let ok = c.requires.0 in
     let p = c.put_cells-r in

@@ -46,7 +46,8 @@ pub offset_bounds-out-at-4 : goal.offset_bounds-out-at-4
 offset_bounds-out-at-4 c = omega (arith, c.requires.4, c.well_formed.1.1.0.1)
 
 pub bounds-out-at-4 : goal.bounds-out-at-4
-bounds-out-at-4 c = let kept = three_kept c.args.out.now c.args.at c.word_at.result c.word_at-2.result c.word_at-3.result in
+bounds-out-at-4 c =
+    let kept = three_kept c.args.out.now c.args.at c.word_at.result c.word_at-2.result c.word_at-3.result in
     omega (arith, c.requires.4, kept)
 
 pub shape_of-out : goal.shape_of-out

@@ -6,7 +6,8 @@ use Rattle.rings.proofs.Putting.{put_next}
 use Rattle.rings.proofs.put_tet.Goals as goal
 
 pub returns : goal.returns
-returns c = let a = c.args in
+returns c =
+    let a = c.args in
     let l = a.out.now in
     let q : List ℕ → List ℕ = λ r. map (λ (k : ℕ). get_or a.words.now k 0) r in
     let e1 = c.put_three.ensures in

@@ -43,5 +43,5 @@ returns c =
     let a = c.args in
     let ix = c.requires.indexed in
     ap (λ (x : ℕ). not (eqb x 0))
-    (ap (λ (k : ℕ). get_or a.base.now (a.at.bows + k) 0) (cell_is)
+    (ap (λ (k : ℕ). get_or a.base.now (a.at.bows + k) 0) cell_is
     ∙ read_bow a.at a.base.now ix (cell_of a.at (input a.at a.base.now) a.g) (ix.laid.celled a.g c.requires.g_lt_faces))

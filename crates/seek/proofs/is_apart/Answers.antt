@@ -13,7 +13,8 @@ returns-then-g-lo c = rw (le-ltb c.args.lo c.args.g c.if-g-lo.true)
 
 pub returns-then-base-cells : goal.returns-then-base-cells
 unfolding apart
-returns-then-base-cells c = let a = c.args in
+returns-then-base-cells c =
+    let a = c.args in
     let q = c.requires in
     let t = input a.at a.base.now in
     let e : cell_of a.at t a.lo ≡ cell_of a.at t a.g = sym (read_cell a.at a.base.now q.indexed a.lo q.lo_lt_faces.0) ∙ c.if-base-cells.true ∙ read_cell a.at a.base.now q.indexed a.g q.lo_lt_faces.1 in

@@ -12,13 +12,15 @@ use Rattle.seek.proofs.Condition.{shares_early}
 use Rattle.seek.proofs.is_candidate.Goals as goal
 
 pub returns-then-c-lt3 : goal.returns-then-c-lt3
-returns-then-c-lt3 c = let a = c.args in
+returns-then-c-lt3 c =
+    let a = c.args in
     let t = input a.at a.base.now in
     sym (shares_early a.at t a.lo a.g ∙ ap (λ (n : ℕ). early a.at t a.lo a.g && leb 3 n) (sym c.requires.c_value) ∙ ap (λ (x : Bool). early a.at t a.lo a.g && x) (lt-leb 3 a.c c.if-c-lt3.true) ∙ and-false (early a.at t a.lo a.g))
 
 pub returns-then-not-is_apart : goal.returns-then-not-is_apart
 unfolding early
-returns-then-not-is_apart c = let a = c.args in
+returns-then-not-is_apart c =
+    let a = c.args in
     sym (shares_early a.at (input a.at a.base.now) a.lo a.g ∙ rw (sym c.is_apart.ensures ∙ c.if-not-is_apart.true))
 
 pub returns : goal.returns

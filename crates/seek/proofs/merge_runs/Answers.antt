@@ -30,8 +30,10 @@ moved_on p w lo k g n from to v ready held g' low =
     let same : up_to p (input p w) lo g ≡ up_to p (input p w) lo g' =
     keep_skip (shares p (input p w) lo) g (g' - g)
     (λ h a b. ap (λ (t : List ℕ). shares p t lo h) (sym (input_base p w ready.below)) ∙ skipped p (base p w) lo k g from to held.runs g' held.top low h a (omega arith))
-    ∙ ap (up_to p (input p w) lo) e in
-    (up, record { top = low.top; work = held.work ∙ ap (sets w p.found) same; number = held.number ∙ ap length same; runs = lowered p (base p w) lo k g from to held.runs g' held.top low })
+    ∙ ap (up_to p (input p w) lo) e in (
+      up,
+      record { top = low.top; work = held.work ∙ ap (sets w p.found) same; number = held.number ∙ ap length same; runs = lowered p (base p w) lo k g from to held.runs g' held.top low },
+    )
 
 -- the candidates below g, and g where it is one
 next_one : (p : Places) (t : List ℕ) (lo g : ℕ) → up_to p t lo g ++ one p t lo g ≡ up_to p t lo (g + 1)
@@ -75,17 +77,20 @@ onward p w lo k g n from to v ready held g' low =
     moved_on p w lo k g n from to v ready held g' (subst (λ (x : List ℕ). Lowest k x from to p.faces g') (same_base p w lo k g n from to v held) low)
 
 pub slice_bounds-lowest-end-2 : goal.slice_bounds-lowest-end-2
-slice_bounds-lowest-end-2 c = let a = c.args in sym (length-take-le a.at.found a.work.now (omega (arith, c.requires.ready.room)))
+slice_bounds-lowest-end-2 c =
+    let a = c.args in sym (length-take-le a.at.found a.work.now (omega (arith, c.requires.ready.room)))
 
 pub lowest-g-requires : goal.lowest-g-requires
 lowest-g-requires c = c.requires.begun.runs.ends
 
 pub loop-g-init : goal.loop-g-init
-loop-g-init c = let a = c.args in
+loop-g-init c =
+    let a = c.args in
     (moved_on a.at a.work.now a.lo a.k c.requires.begun.first 0 a.from.now a.to.now a.work.now c.requires.ready (begin a.at a.work.now a.lo a.k a.from.now a.to.now c.requires.begun) c.lowest-g.result c.lowest-g.ensures).1
 
 pub take_face-n-requires : goal.take_face-n-requires
-take_face-n-requires c = let a = c.args in
+take_face-n-requires c =
+    let a = c.args in
     let l = c.loop-g in
     let ready = c.requires.ready in
     record {
@@ -151,11 +156,13 @@ loop-g-preserved c =
     (onward a.at a.work.now a.lo a.k (l.g + 1) f.result f.new.from a.to.now f.new.work c.requires.ready taken c.lowest-g-in-loop-g.result c.lowest-g-in-loop-g.ensures).1
 
 pub shape_of-work : goal.shape_of-work
-shape_of-work c = let a = c.args in let l = c.loop-g in ap length l.invariant.work ∙ length-sets a.work.now a.at.found (up_to a.at (input a.at a.work.now) a.lo l.g)
+shape_of-work c =
+    let a = c.args in let l = c.loop-g in ap length l.invariant.work ∙ length-sets a.work.now a.at.found (up_to a.at (input a.at a.work.now) a.lo l.g)
 
 pub returns : goal.returns
 unfolding candidates
-returns c = let a = c.args in
+returns c =
+    let a = c.args in
     let l = c.loop-g in
     let e : l.g ≡ a.at.faces = omega (arith, l.invariant.top, c.loop-g-test.false) in
     let s = ap (up_to a.at (input a.at a.work.now) a.lo) e in

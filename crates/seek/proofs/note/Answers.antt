@@ -6,7 +6,8 @@ use lib.ListN.{set}
 use Rattle.seek.proofs.note.Goals as goal
 
 pub returns-then-wanted : goal.returns-then-wanted
-returns-then-wanted c = let a = c.args in
+returns-then-wanted c =
+    let a = c.args in
     rw c.if-wanted.true record { value = omega arith; work_after = ap (set a.work.now (a.found + a.n)) c.narrow.ensures }
 
 pub returns : goal.returns

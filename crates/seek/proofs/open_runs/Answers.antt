@@ -14,21 +14,29 @@ use Rattle.seek.proofs.open_runs.Goals as goal
 asks : (p : Places) (b : List ℕ) → Indexed p b → length b < 2 ^ 62 → (lo : ℕ) → lo < p.faces → (s k : ℕ) → s ≡ p.sets + start_of p (input p b) lo → k ≡ length (nodes_of p (input p b) lo) → (o d : ℕ) → d ≤ 1 → o ≡ p.offsets + d
     → (k ≤ 64) × (s + k ≤ length b) × ((i : ℕ) → i < k → o + get_or b (s + i) 0 < length b) × (p.index + length b < 2 ^ 63) × ((i : ℕ) → i < k → get_or b (o + get_or b (s + i) 0) 0 ≤ length b)
 asks p b ix fit lo h s k is-s is-k o d d≤1 is-o =
-    let f = nodes_fit p b ix lo h s k is-s is-k o d d≤1 is-o in
-    (f.0, f.1, slot_low p b ix lo h s k is-s is-k o d d≤1 is-o, omega (arith, long p b ix, ix.index_at), value_low p b ix lo h s k is-s is-k o d d≤1 is-o)
+    let f = nodes_fit p b ix lo h s k is-s is-k o d d≤1 is-o in (
+      f.0,
+      f.1,
+      slot_low p b ix lo h s k is-s is-k o d d≤1 is-o,
+      omega (arith, long p b ix, ix.index_at),
+      value_low p b ix lo h s k is-s is-k o d d≤1 is-o,
+    )
 
 pub places-requires : goal.places-requires
-places-requires c = let a = c.args in
+places-requires c =
+    let a = c.args in
     let q = c.requires in
     asks a.at a.base.now q.indexed (omega (arith, c.well_formed.0)) a.lo q.lo_lt_faces c.set_start-s.result c.set_size-k.result c.set_start-s.ensures c.set_size-k.ensures a.at.offsets 0 (omega arith) (omega arith)
 
 pub places-requires-2 : goal.places-requires-2
-places-requires-2 c = let a = c.args in
+places-requires-2 c =
+    let a = c.args in
     let q = c.requires in
     asks a.at a.base.now q.indexed (omega (arith, c.well_formed.0)) a.lo q.lo_lt_faces c.set_start-s.result c.set_size-k.result c.set_start-s.ensures c.set_size-k.ensures (a.at.offsets + 1) 1 (omega arith) refl
 
 pub returns : goal.returns
-returns c = let a = c.args in
+returns c =
+    let a = c.args in
     let q = c.requires in
     let b = a.base.now in
     let u = c.set_start-s in

@@ -14,7 +14,8 @@ use Rattle.seek.proofs.Skipping.{all_rising, runs_from}
 use Rattle.seek.proofs.seek_by_nodes.Goals as goal
 
 pub slice_bounds-bow_at-end-2 : goal.slice_bounds-bow_at-end-2
-slice_bounds-bow_at-end-2 c = let a = c.args in sym (length-take-le a.at.found a.work.now (omega (arith, c.requires.ready.room)))
+slice_bounds-bow_at-end-2 c =
+    let a = c.args in sym (length-take-le a.at.found a.work.now (omega (arith, c.requires.ready.room)))
 
 pub returns-then-bow_at : goal.returns-then-bow_at
 returns-then-bow_at c = record {
@@ -23,10 +24,12 @@ returns-then-bow_at c = record {
 }
 
 pub slice_bounds-open_runs-end-2 : goal.slice_bounds-open_runs-end-2
-slice_bounds-open_runs-end-2 c = let a = c.args in sym (length-take-le a.at.found a.work.now (omega (arith, c.requires.ready.room)))
+slice_bounds-open_runs-end-2 c =
+    let a = c.args in sym (length-take-le a.at.found a.work.now (omega (arith, c.requires.ready.room)))
 
 pub slice_bounds-skip_runs-end-2 : goal.slice_bounds-skip_runs-end-2
-slice_bounds-skip_runs-end-2 c = let a = c.args in sym (length-take-le a.at.found a.work.now (omega (arith, c.requires.ready.room)))
+slice_bounds-skip_runs-end-2 c =
+    let a = c.args in sym (length-take-le a.at.found a.work.now (omega (arith, c.requires.ready.room)))
 
 pub skip_runs-requires : goal.skip_runs-requires
 skip_runs-requires c =
@@ -71,7 +74,7 @@ merge_runs-n-requires c =
         first = a.end;
         top = q.end_le_faces.0;
         hidden = q.end_le_faces.1;
-        runs = runs_from a.at (base a.at a.work.now) a.lo y.result y.new.from y.new.to a.end c.skip_runs.new.from (runs_open) c.skip_runs.ensures;
+        runs = runs_from a.at (base a.at a.work.now) a.lo y.result y.new.from y.new.to a.end c.skip_runs.new.from runs_open c.skip_runs.ensures;
       };
     }
 

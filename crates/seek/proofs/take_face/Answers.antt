@@ -15,13 +15,16 @@ use Rattle.seek.proofs.Merging.{counted, passed}
 use Rattle.seek.proofs.take_face.Goals as goal
 
 pub slice_bounds-pass-end-2 : goal.slice_bounds-pass-end-2
-slice_bounds-pass-end-2 c = let a = c.args in sym (length-take-le a.at.found a.work.now (omega (arith, c.requires.ready.room)))
+slice_bounds-pass-end-2 c =
+    let a = c.args in sym (length-take-le a.at.found a.work.now (omega (arith, c.requires.ready.room)))
 
 pub slice_bounds-is_candidate-end-2 : goal.slice_bounds-is_candidate-end-2
-slice_bounds-is_candidate-end-2 c = let a = c.args in sym (length-take-le a.at.found a.work.now (omega (arith, c.requires.ready.room)))
+slice_bounds-is_candidate-end-2 c =
+    let a = c.args in sym (length-take-le a.at.found a.work.now (omega (arith, c.requires.ready.room)))
 
 pub is_candidate-wanted-requires : goal.is_candidate-wanted-requires
-is_candidate-wanted-requires c = let a = c.args in
+is_candidate-wanted-requires c =
+    let a = c.args in
     let q = c.requires in
     record {
       indexed = q.ready.indexed;
@@ -30,7 +33,8 @@ is_candidate-wanted-requires c = let a = c.args in
     }
 
 pub returns : goal.returns
-returns c = let a = c.args in
+returns c =
+    let a = c.args in
     let q = c.requires in
     let w = a.work.now in
     let e : c.is_candidate-wanted.result ≡ shares a.at (input a.at w) a.lo a.g = c.is_candidate-wanted.ensures ∙ ap (λ (t : List ℕ). shares a.at t a.lo a.g) (input_base a.at w q.ready.below) in

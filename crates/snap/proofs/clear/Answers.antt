@@ -10,20 +10,24 @@ use borrow.Author.Rules.{rules}
 use Rattle.snap.proofs.clear.Goals as goal
 
 pub loop-i-init : goal.loop-i-init
-loop-i-init c = let a = c.args in
-    let e : a.n - 0 ≡ a.n = omega arith in
-    (search rules, refl, ap (λ (m : ℕ). sets a.work.now (a.k + 0) (replicate m 0)) e ∙ ap (λ (o : ℕ). sets a.work.now o (replicate a.n 0)) (add-zero a.k))
+loop-i-init c =
+    let a = c.args in
+    let e : a.n - 0 ≡ a.n = omega arith in (
+      search rules,
+      refl,
+      ap (λ (m : ℕ). sets a.work.now (a.k + 0) (replicate m 0)) e ∙ ap (λ (o : ℕ). sets a.work.now o (replicate a.n 0)) (add-zero a.k),
+    )
 
 pub loop-i-preserved : goal.loop-i-preserved
-loop-i-preserved c = let at = c in
-    let a = at.args in
-    (omega arith, simp length-set at.loop-i.invariant.1, clear_step at.loop-i.work a.k at.loop-i.i a.n (omega arith) ∙ at.loop-i.invariant.2)
+loop-i-preserved c =
+    let a = c.args in
+    (omega arith, simp length-set c.loop-i.invariant.1, clear_step c.loop-i.work a.k c.loop-i.i a.n (omega arith) ∙ c.loop-i.invariant.2)
 
 pub shape_of-work : goal.shape_of-work
 shape_of-work c = c.loop-i.invariant.1
 
 pub returns : goal.returns
-returns c = let at = c in
-    let a = at.args in
-    let e : a.n - at.loop-i.i ≡ 0 = omega arith in
-    ap (λ (m : ℕ). sets at.loop-i.work (a.k + at.loop-i.i) (replicate m 0)) (sym e) ∙ at.loop-i.invariant.2
+returns c =
+    let a = c.args in
+    let e : a.n - c.loop-i.i ≡ 0 = omega arith in
+    ap (λ (m : ℕ). sets c.loop-i.work (a.k + c.loop-i.i) (replicate m 0)) (sym e) ∙ c.loop-i.invariant.2

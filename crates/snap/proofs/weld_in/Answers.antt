@@ -4,19 +4,15 @@ use Rattle.snap.proofs.Whole.{Lent, sweep_asks, all_settled}
 use Rattle.snap.proofs.weld_in.Goals as goal
 
 pub sort-requires : goal.sort-requires
-sort-requires c = let p = c.requires in (p.0, omega arith, rw (← p.3) p.5, p.6)
+sort-requires c =
+    let p = c.requires in (p.0, omega arith, rw (← p.3) p.5, p.6)
 
 pub sweep-requires : goal.sweep-requires
 sweep-requires c =
     let lent : Lent c.args.coords.now c.args.tol c.args.work.now c.args.a c.args.s c.args.k c.args.n c.args.size = record { first = c.requires.0; second = c.requires.1; marks = c.requires.2; nodes = c.requires.5 } in
-    let d = c in
-    let s = d in
-    sweep_asks (lent) d.sort.ensures d.clear.ensures s.requires.3 s.requires.4 s.requires.6
+    sweep_asks lent c.sort.ensures c.clear.ensures c.requires.3 c.requires.4 c.requires.6
 
 pub returns : goal.returns
 returns c =
     let lent : Lent c.args.coords.now c.args.tol c.args.work.now c.args.a c.args.s c.args.k c.args.n c.args.size = record { first = c.requires.0; second = c.requires.1; marks = c.requires.2; nodes = c.requires.5 } in
-    let w = c in
-    let d = w in
-    let s = d in
-    all_settled (lent) d.sort.ensures d.clear.ensures w.sweep.new.work w.sweep.auto.work w.sweep.ensures c.settle.ensures s.requires.7
+    all_settled lent c.sort.ensures c.clear.ensures c.sweep.new.work c.sweep.auto.work c.sweep.ensures c.settle.ensures c.requires.7

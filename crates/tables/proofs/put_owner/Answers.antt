@@ -8,7 +8,8 @@ use mathlib.Core.Path.{ap, ◌∙◌}
 use Rattle.tables.proofs.put_owner.Goals as goal
 
 pub returns : goal.returns
-returns c = let a = c.args in
+returns c =
+    let a = c.args in
     let t = c.tally_kind-t.ensures.faces in
     record {
       count = omega (arith, t, length-replicate (length (rings_of (cell_with a.kind a.words.now))) a.cell);

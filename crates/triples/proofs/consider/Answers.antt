@@ -21,16 +21,19 @@ only : (p : Places) (g : ℕ) → g < p.faces → Faces p (g ∷ [])
 only p g h x e = let s : x ≡ g = eqb-true x g (sym (or-false (eqb x g)) ∙ e) in omega arith
 
 pub slice_bounds-is_hit-end-2 : goal.slice_bounds-is_hit-end-2
-slice_bounds-is_hit-end-2 c = let a = c.args in sym (length-take-le a.at.found a.work.now (omega (arith, c.requires.fact.ready.room)))
+slice_bounds-is_hit-end-2 c =
+    let a = c.args in sym (length-take-le a.at.found a.work.now (omega (arith, c.requires.fact.ready.room)))
 
 pub is_hit-requires : goal.is_hit-requires
-is_hit-requires c = let q = c.requires in record { indexed = q.fact.ready.indexed; lo_lt_faces = (q.fact.ready.face, q.g_lt_faces) }
+is_hit-requires c =
+    let q = c.requires in record { indexed = q.fact.ready.indexed; lo_lt_faces = (q.fact.ready.face, q.g_lt_faces) }
 
 pub narrow-v-requires : goal.narrow-v-requires
 narrow-v-requires c = omega (arith, c.requires.fact.ready.indexed.small.1, c.requires.g_lt_faces)
 
 pub insert-requires : goal.insert-requires
-insert-requires c = let a = c.args in
+insert-requires c =
+    let a = c.args in
     let op = c.requires.fact in (
       omega (arith, op.few, op.ready.room),
       subst (λ (v : ℕ). a.at.found + length (add leb v (listed a.at a.n a.work.now)) ≤ length a.work.now) (sym c.narrow-v.ensures)
@@ -39,7 +42,8 @@ insert-requires c = let a = c.args in
     )
 
 pub returns-then-is_hit : goal.returns-then-is_hit
-returns-then-is_hit c = let a = c.args in
+returns-then-is_hit c =
+    let a = c.args in
     let op = c.requires.fact in
     let w = a.work.now in
     let t : shares a.at (input a.at (base a.at w)) a.lo a.g ≡ true = sym c.is_hit.ensures ∙ c.if-is_hit.true in
@@ -47,7 +51,8 @@ returns-then-is_hit c = let a = c.args in
     rw t (record { number = c.insert.ensures.0 ∙ ap length e; filled = c.insert.ensures.1 ∙ ap (sets w a.at.found) e })
 
 pub returns : goal.returns
-returns c = let a = c.args in
+returns c =
+    let a = c.args in
     let op = c.requires.fact in
     let w = a.work.now in
     let t : shares a.at (input a.at (base a.at w)) a.lo a.g ≡ false = sym c.is_hit.ensures ∙ c.if-is_hit.false in

@@ -19,14 +19,17 @@ unfolding early
 three p t lo g = shares_early p t lo g
 
 pub returns-then-not-is_apart : goal.returns-then-not-is_apart
-returns-then-not-is_apart c = let a = c.args in
+returns-then-not-is_apart c =
+    let a = c.args in
     sym (three a.at (input a.at a.base.now) a.lo a.g ∙ rw (sym c.is_apart.ensures ∙ c.if-not-is_apart.true))
 
 pub returns-then-same_set : goal.returns-then-same_set
-returns-then-same_set c = let a = c.args in
+returns-then-same_set c =
+    let a = c.args in
     sym (three a.at (input a.at a.base.now) a.lo a.g ∙ rw (sym c.same_set.ensures ∙ c.if-same_set.true) (ap (λ (x : Bool). x && leb 3 (length (common (nodes_of a.at (input a.at a.base.now) a.lo) (nodes_of a.at (input a.at a.base.now) a.g)))) (and-false (apart a.at (input a.at a.base.now) a.lo a.g))))
 
 pub returns : goal.returns
-returns c = let a = c.args in
+returns c =
+    let a = c.args in
     c.share_three.ensures
     ∙ sym (three a.at (input a.at a.base.now) a.lo a.g ∙ rw (sym c.same_set.ensures ∙ c.if-same_set.false, sym c.is_apart.ensures ∙ c.if-not-is_apart.false))

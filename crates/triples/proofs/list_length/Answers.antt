@@ -18,9 +18,11 @@ both p b ix v h x y d e =
     (d ∙ ix.offset v (omega arith), e ∙ ap (λ (k : ℕ). get_or b k 0) j ∙ ix.offset (suc v) (omega arith) ∙ below_suc v (words_of p (input p b)))
 
 pub overflow_sub-result : goal.overflow_sub-result
-overflow_sub-result c = let a = c.args in
+overflow_sub-result c =
+    let a = c.args in
     omega (arith, both a.at a.base.now c.requires.indexed a.v c.requires.v_lt_nodes c.wide-2.result c.wide.result c.wide-2.ensures c.wide.ensures)
 
 pub returns : goal.returns
-returns c = let a = c.args in
+returns c =
+    let a = c.args in
     omega (arith, both a.at a.base.now c.requires.indexed a.v c.requires.v_lt_nodes c.wide-2.result c.wide.result c.wide-2.ensures c.wide.ensures)

@@ -15,13 +15,16 @@ slice_bounds-bow_at-end c = omega (arith, c.requires.0.room)
 pub slice_bounds-bow_at-end-2 : goal.slice_bounds-bow_at-end-2
 slice_bounds-bow_at-end-2 c =
     let long : length (base c.args.at c.args.work.now) ≡ c.args.at.found = length-take-le c.args.at.found c.args.work.now (omega (arith, c.requires.0.room)) in
-    sym (long)
+    sym long
 
 pub bow_at-requires : goal.bow_at-requires
 bow_at-requires c = record { indexed = c.requires.0.indexed; g_lt_faces = c.requires.0.face }
 
 pub returns-then-bow_at : goal.returns-then-bow_at
-returns-then-bow_at c = record { way = refl; sought = none_sought c.args.at c.args.lo c.args.work.now c.requires.0 (sym c.bow_at.ensures ∙ c.if-bow_at.true) }
+returns-then-bow_at c = record {
+  way = refl;
+  sought = none_sought c.args.at c.args.lo c.args.work.now c.requires.0 (sym c.bow_at.ensures ∙ c.if-bow_at.true);
+}
 
 pub slice_bounds-set_start-end : goal.slice_bounds-set_start-end
 slice_bounds-set_start-end c = omega (arith, c.requires.0.room)
@@ -29,7 +32,7 @@ slice_bounds-set_start-end c = omega (arith, c.requires.0.room)
 pub slice_bounds-set_start-end-2 : goal.slice_bounds-set_start-end-2
 slice_bounds-set_start-end-2 c =
     let long : length (base c.args.at c.args.work.now) ≡ c.args.at.found = length-take-le c.args.at.found c.args.work.now (omega (arith, c.requires.0.room)) in
-    sym (long)
+    sym long
 
 pub set_start-s-requires : goal.set_start-s-requires
 set_start-s-requires c = record { indexed = c.requires.0.indexed; g_lt_faces = c.requires.0.face }
@@ -40,7 +43,7 @@ slice_bounds-set_size-end c = omega (arith, c.requires.0.room)
 pub slice_bounds-set_size-end-2 : goal.slice_bounds-set_size-end-2
 slice_bounds-set_size-end-2 c =
     let long : length (base c.args.at c.args.work.now) ≡ c.args.at.found = length-take-le c.args.at.found c.args.work.now (omega (arith, c.requires.0.room)) in
-    sym (long)
+    sym long
 
 pub set_size-k-requires : goal.set_size-k-requires
 set_size-k-requires c = record { indexed = c.requires.0.indexed; g_lt_faces = c.requires.0.face }
@@ -63,7 +66,8 @@ overflow_add-s c =
     omega (arith, nodes_fit a.at (base a.at w) r.indexed a.lo x.result (x.result + n.result) r.face at, long, r.room, c.well_formed.0)
 
 pub seek_short-n-requires : goal.seek_short-n-requires
-seek_short-n-requires c = let a = c.args in
+seek_short-n-requires c =
+    let a = c.args in
     let w = a.work.now in
     let x = c.set_start-s in
     let n = c.set_size-k in
@@ -104,7 +108,8 @@ walk_rare-n-requires c =
     }
 
 pub returns : goal.returns
-returns c = let a = c.args in
+returns c =
+    let a = c.args in
     let w = a.work.now in
     let x = c.set_start-s in
     let n = c.set_size-k in

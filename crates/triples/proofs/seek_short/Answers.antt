@@ -16,7 +16,7 @@ slice_bounds-set_start-end c = omega (arith, c.requires.ready.0.room)
 pub slice_bounds-set_start-end-2 : goal.slice_bounds-set_start-end-2
 slice_bounds-set_start-end-2 c =
     let long : length (base c.args.at c.args.work.now) ≡ c.args.at.found = length-take-le c.args.at.found c.args.work.now (omega (arith, c.requires.ready.0.room)) in
-    sym (long)
+    sym long
 
 pub set_start-a-requires : goal.set_start-a-requires
 set_start-a-requires c =
@@ -29,7 +29,7 @@ slice_bounds-set_size-end c = omega (arith, c.requires.ready.0.room)
 pub slice_bounds-set_size-end-2 : goal.slice_bounds-set_size-end-2
 slice_bounds-set_size-end-2 c =
     let long : length (base c.args.at c.args.work.now) ≡ c.args.at.found = length-take-le c.args.at.found c.args.work.now (omega (arith, c.requires.ready.0.room)) in
-    sym (long)
+    sym long
 
 pub set_size-k-requires : goal.set_size-k-requires
 set_size-k-requires c =
@@ -45,7 +45,7 @@ overflow_add-a c =
     let x = c.set_start-a in
     let n = c.set_size-k in
     let keys = nodes_at a.by (base a.at w) a.lo x.result n.result x.ensures n.ensures in
-    omega (arith, nodes_fit a.by (base a.at w) c.requires.ready.1.indexed a.lo x.result (x.result + n.result) (lo_face) keys, long, c.requires.ready.0.room, c.well_formed.0)
+    omega (arith, nodes_fit a.by (base a.at w) c.requires.ready.1.indexed a.lo x.result (x.result + n.result) lo_face keys, long, c.requires.ready.0.room, c.well_formed.0)
 
 pub walk_keys-n-requires : goal.walk_keys-n-requires
 walk_keys-n-requires c =
@@ -59,8 +59,8 @@ walk_keys-n-requires c =
       fact = none_open a.at a.lo w c.requires.ready.0;
       beside = (
         keyed_beside a.at a.by (base a.at w) c.requires.ready.1,
-        omega (arith, nodes_fit a.by (base a.at w) c.requires.ready.1.indexed a.lo x.result (x.result + n.result) (lo_face) keys, long),
-        nodes_known a.by (base a.at w) c.requires.ready.1.indexed a.lo x.result (x.result + n.result) (lo_face) keys,
+        omega (arith, nodes_fit a.by (base a.at w) c.requires.ready.1.indexed a.lo x.result (x.result + n.result) lo_face keys, long),
+        nodes_known a.by (base a.at w) c.requires.ready.1.indexed a.lo x.result (x.result + n.result) lo_face keys,
       );
     }
 
@@ -88,7 +88,8 @@ walk_rare-requires c =
     }
 
 pub returns : goal.returns
-returns c = let a = c.args in
+returns c =
+    let a = c.args in
     let w = a.work.now in
     let x = c.set_start-a in
     let n = c.set_size-k in

@@ -11,7 +11,8 @@ use Rattle.seek.proofs.Read.{set-fits, set_there}
 use Rattle.triples.proofs.share_three.Goals as goal
 
 pub has_three-requires : goal.has_three-requires
-has_three-requires c = let a = c.args in
+has_three-requires c =
+    let a = c.args in
     let q = c.requires in
     let x = c.set_start-s.ensures in
     let n = c.set_size-k.ensures in
@@ -25,7 +26,8 @@ has_three-requires c = let a = c.args in
     }
 
 pub returns : goal.returns
-returns c = let a = c.args in
+returns c =
+    let a = c.args in
     let q = c.requires in
     c.has_three.ensures
     ∙ ap₂ (λ (x y : List ℕ). leb 3 (length (common x y))) (ap₂ (λ (x y : ℕ). region x y a.base.now) c.set_start-s.ensures c.set_size-k.ensures ∙ set_there a.at a.base.now q.indexed a.lo q.lo_lt_faces.0)

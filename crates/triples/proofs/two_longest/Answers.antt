@@ -19,7 +19,8 @@ pub loop-k-init : goal.loop-k-init
 loop-k-init c = omega (arith, c.requires.s_bound.0)
 
 pub list_length-requires-in-loop-k : goal.list_length-requires-in-loop-k
-list_length-requires-in-loop-k c = let o = c.loop-k in
+list_length-requires-in-loop-k c =
+    let o = c.loop-k in
     record {
       indexed = c.requires.indexed;
       v_lt_nodes = omega (arith, c.wide-in-loop-k.ensures, c.requires.s_bound.2 o.k (omega (arith, o.invariant)) c.loop-k-test.true);

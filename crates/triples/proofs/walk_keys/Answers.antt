@@ -54,19 +54,22 @@ module _ (p q : Places) (lo n : ℕ) (w : List ℕ) (op : Open p lo n w) (bs : B
     done = held_end p lo n w op s e within (G p q w lo) (F p q w lo) refl (λ x l. refl) all i r v h
 
 pub loop-i-init : goal.loop-i-init
-loop-i-init c = let a = c.args in
+loop-i-init c =
+    let a = c.args in
     (omega arith, start a.at a.by a.lo a.n a.work.now c.requires.fact c.requires.beside.0 a.s a.e c.requires.beside.1)
 
 pub offset_bounds-work-i : goal.offset_bounds-work-i
 offset_bounds-work-i c = omega (arith, c.requires.beside.1, c.requires.fact.ready.room, c.well_formed.0, c.loop-i-test.true)
 
 pub bounds-work-i : goal.bounds-work-i
-bounds-work-i c = let a = c.args in
+bounds-work-i c =
+    let a = c.args in
     let l = c.loop-i in
     omega (arith, c.requires.beside.1, c.requires.fact.ready.room, c.loop-i-test.true, long a.at a.by a.lo a.n a.work.now c.requires.fact c.requires.beside.0 a.s a.e c.requires.beside.1 l.i l.n l.work l.invariant.1)
 
 pub walk_key-n-requires : goal.walk_key-n-requires
-walk_key-n-requires c = let a = c.args in
+walk_key-n-requires c =
+    let a = c.args in
     let l = c.loop-i in
     let k = c.loop-i-test.true in
     let w = a.work.now in
@@ -81,7 +84,8 @@ walk_key-n-requires c = let a = c.args in
     }
 
 pub loop-i-preserved : goal.loop-i-preserved
-loop-i-preserved c = let a = c.args in
+loop-i-preserved c =
+    let a = c.args in
     let l = c.loop-i in
     let k = c.loop-i-test.true in
     let w = a.work.now in
@@ -95,11 +99,13 @@ loop-i-preserved c = let a = c.args in
     )
 
 pub shape_of-work : goal.shape_of-work
-shape_of-work c = let a = c.args in
+shape_of-work c =
+    let a = c.args in
     let l = c.loop-i in
     long a.at a.by a.lo a.n a.work.now c.requires.fact c.requires.beside.0 a.s a.e c.requires.beside.1 l.i l.n l.work l.invariant.1
 
 pub returns : goal.returns
-returns c = let a = c.args in
+returns c =
+    let a = c.args in
     let l = c.loop-i in
     done a.at a.by a.lo a.n a.work.now c.requires.fact c.requires.beside.0 a.s a.e c.requires.beside.1 l.i l.n l.work l.invariant.1 c.loop-i-test.false

@@ -22,7 +22,7 @@ read_back_lem p q lo r v r' u i j k e b same a = subst (λ (x : List ℕ). Added
 pub slice_bounds-two_longest-end-2 : goal.slice_bounds-two_longest-end-2
 slice_bounds-two_longest-end-2 c =
     let long : length (base c.args.at c.args.work.now) ≡ c.args.at.found = length-take-le c.args.at.found c.args.work.now (omega (arith, c.requires.fact.ready.room)) in
-    sym (long)
+    sym long
 
 pub two_longest-t-requires : goal.two_longest-t-requires
 two_longest-t-requires c =
@@ -30,7 +30,8 @@ two_longest-t-requires c =
     record { indexed = c.requires.beside.0.indexed; s_bound = (c.requires.beside.1, omega (arith, long, c.requires.beside.2), c.requires.beside.3) }
 
 pub walk_keys-a-requires : goal.walk_keys-a-requires
-walk_keys-a-requires c = let a = c.args in
+walk_keys-a-requires c =
+    let a = c.args in
     let t = c.two_longest-t in
     record {
       fact = c.requires.fact;
@@ -38,7 +39,8 @@ walk_keys-a-requires c = let a = c.args in
     }
 
 pub walk_keys-b-requires : goal.walk_keys-b-requires
-walk_keys-b-requires c = let a = c.args in
+walk_keys-b-requires c =
+    let a = c.args in
     let p = a.at in
     let q = a.by in
     let w = a.work.now in
@@ -58,7 +60,8 @@ walk_keys-b-requires c = let a = c.args in
     }
 
 pub walk_keys-requires : goal.walk_keys-requires
-walk_keys-requires c = let a = c.args in
+walk_keys-requires c =
+    let a = c.args in
     let p = a.at in
     let q = a.by in
     let w = a.work.now in
@@ -83,7 +86,8 @@ walk_keys-requires c = let a = c.args in
     }
 
 pub returns : goal.returns
-returns c = let a = c.args in
+returns c =
+    let a = c.args in
     let p = a.at in
     let q = a.by in
     let w = a.work.now in

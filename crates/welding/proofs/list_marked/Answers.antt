@@ -16,7 +16,8 @@ pub loop-i-init : goal.loop-i-init
 loop-i-init c = (omega arith, refl, refl, refl, omega arith)
 
 pub loop-i-preserved-then-work-k-ne0 : goal.loop-i-preserved-then-work-k-ne0
-loop-i-preserved-then-work-k-ne0 c = let l = c.loop-i in
+loop-i-preserved-then-work-k-ne0 c =
+    let l = c.loop-i in
     let a = c.args in
     let w = a.work.now in
     let read = mark_read w l.work (keep (marked a.k w) (up_from 0 l.i)) a.k l.i l.invariant.2 (omega arith) in
@@ -30,7 +31,8 @@ loop-i-preserved-then-work-k-ne0 c = let l = c.loop-i in
     )
 
 pub loop-i-preserved : goal.loop-i-preserved
-loop-i-preserved c = let l = c.loop-i in
+loop-i-preserved c =
+    let l = c.loop-i in
     let a = c.args in
     let w = a.work.now in
     let read = mark_read w l.work (keep (marked a.k w) (up_from 0 l.i)) a.k l.i l.invariant.2 (omega arith) in
@@ -42,7 +44,10 @@ pub shape_of-work : goal.shape_of-work
 shape_of-work c = c.loop-i.invariant.3
 
 pub returns : goal.returns
-returns c = let l = c.loop-i in
+returns c =
+    let l = c.loop-i in
     let a = c.args in
-    let e : l.i ≡ a.n = omega arith in
-    (l.invariant.1 ∙ ap (λ (k : ℕ). length (keep (marked a.k a.work.now) (up_from 0 k))) e, l.invariant.2 ∙ ap (λ (k : ℕ). sets a.work.now 0 (keep (marked a.k a.work.now) (up_from 0 k))) e)
+    let e : l.i ≡ a.n = omega arith in (
+      l.invariant.1 ∙ ap (λ (k : ℕ). length (keep (marked a.k a.work.now) (up_from 0 k))) e,
+      l.invariant.2 ∙ ap (λ (k : ℕ). sets a.work.now 0 (keep (marked a.k a.work.now) (up_from 0 k))) e,
+    )

@@ -18,7 +18,8 @@ pub list_marked-requires : goal.list_marked-requires
 list_marked-requires c = (omega arith, omega (arith, c.requires.0, c.clear.auto.work, c.mark_named.auto.work), c.requires.1)
 
 pub returns : goal.returns
-returns c = let a = c.args in
+returns c =
+    let a = c.args in
     let L = c.list_marked in
     let marks = c.mark_named.ensures
     ∙ ap (put_all (a.n + a.n) 1 (nodes_in a.words.now)) c.clear.ensures in

@@ -13,9 +13,13 @@ pub loop-i-init : goal.loop-i-init
 loop-i-init c = (omega arith, refl, refl)
 
 pub loop-i-preserved-then-w : goal.loop-i-preserved-then-w
-loop-i-preserved-then-w c = let l = c.loop-i in
-    let a = c.args in
-    (omega arith, l.invariant.1, ap (λ (ns : List ℕ). put_all a.k 1 ns l.work) (sym (nodes_skip a.words.now l.i c.loop-i-test.true c.if-w.true)) ∙ l.invariant.2)
+loop-i-preserved-then-w c =
+    let l = c.loop-i in
+    let a = c.args in (
+      omega arith,
+      l.invariant.1,
+      ap (λ (ns : List ℕ). put_all a.k 1 ns l.work) (sym (nodes_skip a.words.now l.i c.loop-i-test.true c.if-w.true)) ∙ l.invariant.2,
+    )
 
 pub overflow_add-work : goal.overflow_add-work
 overflow_add-work c =
@@ -33,7 +37,8 @@ bounds-work-k c =
     let h = node in omega arith
 
 pub loop-i-preserved : goal.loop-i-preserved
-loop-i-preserved c = let l = c.loop-i in
+loop-i-preserved c =
+    let l = c.loop-i in
     let a = c.args in
     let next = nodes_next a.words.now l.i c.loop-i-test.true c.if-w.false in (
       omega arith,
@@ -46,7 +51,8 @@ pub shape_of-work : goal.shape_of-work
 shape_of-work c = c.loop-i.invariant.1
 
 pub returns : goal.returns
-returns c = let l = c.loop-i in
+returns c =
+    let l = c.loop-i in
     let a = c.args in
     let h : length a.words.now ≤ l.i = omega arith in
     ap (λ (ws : List ℕ). put_all a.k 1 (nodes_in ws) l.work) (sym (drop_of_length-le a.words.now h)) ∙ l.invariant.2

@@ -16,19 +16,23 @@ pub loop-i-init : goal.loop-i-init
 loop-i-init c = (omega arith, refl, refl)
 
 pub overflow_add-out : goal.overflow_add-out
-overflow_add-out c = let k = below_at c.args.n c.args.words.now c.loop-i.i c.requires.1 c.loop-i-test.true in
+overflow_add-out c =
+    let k = below_at c.args.n c.args.words.now c.loop-i.i c.requires.1 c.loop-i-test.true in
     omega (arith, k, c.wide-k.ensures.0, c.requires.2)
 
 pub offset_bounds-work-o : goal.offset_bounds-work-o
-offset_bounds-work-o c = let k = below_at c.args.n c.args.words.now c.loop-i.i c.requires.1 c.loop-i-test.true in
+offset_bounds-work-o c =
+    let k = below_at c.args.n c.args.words.now c.loop-i.i c.requires.1 c.loop-i-test.true in
     omega (arith, k, c.wide-k.ensures.0, c.requires.2)
 
 pub bounds-work-o : goal.bounds-work-o
-bounds-work-o c = let k = below_at c.args.n c.args.words.now c.loop-i.i c.requires.1 c.loop-i-test.true in
+bounds-work-o c =
+    let k = below_at c.args.n c.args.words.now c.loop-i.i c.requires.1 c.loop-i-test.true in
     omega (arith, k, c.wide-k.ensures.0, c.requires.2)
 
 pub loop-i-preserved : goal.loop-i-preserved
-loop-i-preserved c = let l = c.loop-i in
+loop-i-preserved c =
+    let l = c.loop-i in
     let a = c.args in
     let i<n = c.loop-i-test.true in
     let k = below_at a.n a.words.now l.i c.requires.1 i<n in
@@ -41,7 +45,8 @@ pub shape_of-out : goal.shape_of-out
 shape_of-out c = c.loop-i.invariant.2
 
 pub returns : goal.returns
-returns c = let l = c.loop-i in
+returns c =
+    let l = c.loop-i in
     let a = c.args in
     let f = welded_by (region a.o a.n a.work.now) in
     let h : length (map f a.words.now) ≤ l.i = omega (arith, length-map a.words.now f) in

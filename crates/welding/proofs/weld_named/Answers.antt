@@ -16,7 +16,8 @@ use Rattle.welding.proofs.Naming.{named_welded}
 use Rattle.welding.proofs.weld_named.Goals as goal
 
 pub returns-then-tol : goal.returns-then-tol
-returns-then-tol c = let a = c.args in
+returns-then-tol c =
+    let a = c.args in
     let z : eq a.tol zero64 ≡ true = rw (← zero_bits) c.if-tol.true in
     let u = unwelded a.coords.now a.tol (named_nodes a.words.now) a.work.now _ (a.n + a.n) a.n (omega (arith, c.requires.1)) c.number.ensures z in
     (u.0 ∙ ap (λ (k : ℕ). welded a.coords.now a.tol k (named_nodes a.words.now)) c.requires.0, u.1)
@@ -25,7 +26,8 @@ pub list_named-used-requires : goal.list_named-used-requires
 list_named-used-requires c = (c.requires.1, c.requires.2, c.requires.4)
 
 pub weld_in-requires : goal.weld_in-requires
-weld_in-requires c = let a = c.args in
+weld_in-requires c =
+    let a = c.args in
     let L = c.list_named-used in
     let z : eq a.tol zero64 ≡ false = rw (← zero_bits) c.if-tol.false in (
       omega (arith, L.ensures.0),
@@ -39,6 +41,7 @@ weld_in-requires c = let a = c.args in
     )
 
 pub returns : goal.returns
-returns c = let a = c.args in
+returns c =
+    let a = c.args in
     let L = c.list_named-used in
     named_welded a.coords.now a.tol a.n L.result (named_nodes a.words.now) a.work.now _ _ c.requires.0 L.ensures.1 L.ensures.2 c.weld_in.ensures

@@ -1,4 +1,4 @@
-use Prim.Native.Nat.{ℕ, ◌-◌, ◌<◌}
+use Prim.Native.Nat.{ℕ, ◌<◌}
 use mathlib.Core.List.{List}
 use mathlib.Core.Path.{subst, sym}
 use native.Mathlib.Omega.{arith}
@@ -9,8 +9,11 @@ use Rattle.model_read.proofs.JudgePass.{part32}
 use Rattle.model_read.proofs.filling.fill_all.Goals as goal
 
 pub fill_nodes-requires : goal.fill_nodes-requires
-fill_nodes-requires c = let a = c.args in
-    (c.requires.1.inside, nodes_room a.bytes.now a.nodes (length a.coords.now) (length a.kinds.now) (length a.ends.now) (length a.words.now) c.requires.0 c.requires.1)
+fill_nodes-requires c =
+    let a = c.args in (
+      c.requires.1.inside,
+      nodes_room a.bytes.now a.nodes (length a.coords.now) (length a.kinds.now) (length a.ends.now) (length a.words.now) c.requires.0 c.requires.1,
+    )
 
 pub overflow_mul-p : goal.overflow_mul-p
 overflow_mul-p c = omega (arith, c.requires.1.inside)
@@ -19,12 +22,14 @@ pub overflow_mul-at : goal.overflow_mul-at
 overflow_mul-at c = omega (arith, c.requires.1.inside)
 
 pub loop-at-init : goal.loop-at-init
-loop-at-init c = let a = c.args in
+loop-at-init c =
+    let a = c.args in
     let e = c.fill_nodes in
     filling_start a.bytes.now a.nodes a.coords.now e.new.coords a.kinds.now a.ends.now a.words.now c.requires.0 c.requires.1 e.ensures
 
 pub fill_record-p-requires : goal.fill_record-p-requires
-fill_record-p-requires c = let o = c.loop-at in
+fill_record-p-requires c =
+    let o = c.loop-at in
     let g = c.fill_nodes in
     let a = c.args in
     let lt : o.at < length a.bytes.now = c.loop-at-test.true in
@@ -34,7 +39,8 @@ pub loop-at-smaller : goal.loop-at-smaller
 loop-at-smaller c = omega (arith, c.loop-at-test.true)
 
 pub loop-at-preserved : goal.loop-at-preserved
-loop-at-preserved c = let o = c.loop-at in
+loop-at-preserved c =
+    let o = c.loop-at in
     let g = c.fill_nodes in
     let a = c.args in
     let lt : o.at < length a.bytes.now = c.loop-at-test.true in
@@ -55,7 +61,8 @@ pub shape_of-words : goal.shape_of-words
 shape_of-words c = c.loop-at.invariant.words_long
 
 pub returns : goal.returns
-returns c = let o = c.loop-at in
+returns c =
+    let o = c.loop-at in
     let g = c.fill_nodes in
     let a = c.args in
     filling_end a.bytes.now a.nodes a.coords.now g.new.coords a.kinds.now a.ends.now a.words.now c.requires.0 c.requires.1 g.ensures o.kinds o.ends o.words o.p o.at o.invariant c.loop-at-test.false

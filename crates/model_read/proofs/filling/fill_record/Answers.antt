@@ -16,7 +16,8 @@ pub letter_of-l-requires : goal.letter_of-l-requires
 letter_of-l-requires c = tt
 
 pub fill_kinds-requires : goal.fill_kinds-requires
-fill_kinds-requires c = let a = c.args in
+fill_kinds-requires c =
+    let a = c.args in
     let l = sym c.letter_of-l.ensures in
     (c.requires.long, subst (λ (x : Letter). a.p.cells + length (kinds_in x a.r.now) ≤ length a.kinds.now) l c.requires.kinds_fit)
 
@@ -24,9 +25,13 @@ pub fill_ends-requires : goal.fill_ends-requires
 fill_ends-requires c = omega (arith, c)
 
 pub fill_words-requires : goal.fill_words-requires
-fill_words-requires c = let a = c.args in
-    let l = sym c.letter_of-l.ensures in
-    (c.requires.long, subst (λ (x : Letter). length (words_in x a.r.now) ≤ 14) l c.requires.little, subst (λ (x : Letter). a.p.words + length (words_in x a.r.now) ≤ length a.words.now) l c.requires.words_fit)
+fill_words-requires c =
+    let a = c.args in
+    let l = sym c.letter_of-l.ensures in (
+      c.requires.long,
+      subst (λ (x : Letter). length (words_in x a.r.now) ≤ 14) l c.requires.little,
+      subst (λ (x : Letter). a.p.words + length (words_in x a.r.now) ≤ length a.words.now) l c.requires.words_fit,
+    )
 
 pub place_after-requires : goal.place_after-requires
 place_after-requires c = omega (arith, c)
@@ -41,7 +46,8 @@ pub shape_of-words : goal.shape_of-words
 shape_of-words c = c.fill_words.auto.words
 
 pub returns : goal.returns
-returns c = let a = c.args in
+returns c =
+    let a = c.args in
     let l = c.letter_of-l.ensures in
     record {
       place = c.place_after.ensures ∙ ap (λ (x : Letter). after x a.r.now a.p) l;

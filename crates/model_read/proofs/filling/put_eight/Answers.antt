@@ -17,7 +17,8 @@ pub shape_of-words : goal.shape_of-words
 shape_of-words c = c.put_four-2.auto.words ∙ c.put_four.auto.words
 
 pub returns : goal.returns
-returns c = let a = c.args in
+returns c =
+    let a = c.args in
     let r = a.r.now in
     record {
       up = omega arith;

@@ -21,9 +21,11 @@ pub bounds-ends-cells : goal.bounds-ends-cells
 bounds-ends-cells c = omega (arith, c)
 
 pub returns-then-cells-gt0 : goal.returns-then-cells-gt0
-returns-then-cells-gt0 c = let a = c.args in
+returns-then-cells-gt0 c =
+    let a = c.args in
     sym (ap (λ (b : Bool). sets a.ends.now (a.cells - 1) (ends_in Cell b a.words)) (lt-ltb _ _ c.if-cells-gt0.true))
 
 pub returns-else-cells-gt0 : goal.returns-else-cells-gt0
-returns-else-cells-gt0 c = let a = c.args in
+returns-else-cells-gt0 c =
+    let a = c.args in
     sym (ap (λ (b : Bool). sets a.ends.now (a.cells - 1) (ends_in Cell b a.words)) (le-ltb _ _ c.if-cells-gt0.false))

@@ -74,7 +74,8 @@ pub shape_of-words : goal.shape_of-words
 shape_of-words c = simp length-set
 
 pub returns : goal.returns
-returns c = let a = c.args in
+returns c =
+    let a = c.args in
     let r = a.r.now in
     let f = 4 + 2 * a.j in
     let o = a.at + a.j in

@@ -23,7 +23,8 @@ pub shape_of-words : goal.shape_of-words
 shape_of-words c = c.put_two.auto.words ∙ c.put_four-3.auto.words ∙ c.put_four-2.auto.words ∙ c.put_four.auto.words
 
 pub returns : goal.returns
-returns c = let a = c.args in
+returns c =
+    let a = c.args in
     let r = a.r.now in
     let l = a.words.now in
     let e8 = c.put_four-2.ensures ∙ ap (λ (x : List ℕ). sets x (a.at + 4) (words_between 4 8 r)) c.put_four.ensures ∙ words_on l a.at 0 4 8 r (omega arith) (omega arith) in

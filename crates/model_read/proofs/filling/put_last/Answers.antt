@@ -26,7 +26,8 @@ pub bounds-words-at : goal.bounds-words-at
 bounds-words-at c = omega (arith, c)
 
 pub returns-then-j-n : goal.returns-then-j-n
-returns-then-j-n c = let a = c.args in
+returns-then-j-n c =
+    let a = c.args in
     let r = a.r.now in
     let f = 4 + 2 * a.j in
     let o = a.at + a.j in
@@ -35,5 +36,6 @@ returns-then-j-n c = let a = c.args in
     word_more l o (o + 1) f (f + 2) 0 r c.word_at.result (omega arith) (omega arith) c.word_at.ensures ∙ ap (λ (m : ℕ). sets l o (words_at m (drop f r))) n
 
 pub returns-else-j-n : goal.returns-else-j-n
-returns-else-j-n c = let a = c.args in
+returns-else-j-n c =
+    let a = c.args in
     words_none a.words.now a.at a.j a.n a.r.now (omega arith)

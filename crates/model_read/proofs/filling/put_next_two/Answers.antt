@@ -6,7 +6,8 @@ pub overflow_add-j : goal.overflow_add-j
 overflow_add-j c = omega (arith, c.requires)
 
 pub returns-then-n-j : goal.returns-then-n-j
-returns-then-n-j c = let a = c.args in
+returns-then-n-j c =
+    let a = c.args in
     record { up = omega arith; inside = omega arith; few = omega arith; words_are = words_none a.words.now a.at a.j a.j a.r.now (omega arith) }
 
 pub put_two-requires : goal.put_two-requires

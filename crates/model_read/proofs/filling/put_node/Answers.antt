@@ -46,5 +46,6 @@ pub shape_of-coords : goal.shape_of-coords
 shape_of-coords c = simp length-set
 
 pub returns : goal.returns
-returns c = let a = c.args in
+returns c =
+    let a = c.args in
     (λ i. set (set (set a.coords.now a.at (c.le_f64.ensures i)) (add-one a.at i) (c.le_f64-2.ensures i)) (add_two a.at i) (c.le_f64-3.ensures i))

@@ -22,7 +22,8 @@ pub shape_of-words-then-n-eq14 : goal.shape_of-words-then-n-eq14
 shape_of-words-then-n-eq14 c = c.put_full.auto.words
 
 pub returns-then-n-eq14 : goal.returns-then-n-eq14
-returns-then-n-eq14 c = let a = c.args in
+returns-then-n-eq14 c =
+    let a = c.args in
     c.put_full.ensures ∙ ap (λ (n : ℕ). sets a.words.now a.at (words_at n (drop 4 a.r.now))) (sym c.if-n-eq14.true ∙ c.size-n.ensures.0)
 
 pub put_eight-i-requires : goal.put_eight-i-requires
@@ -41,7 +42,8 @@ pub shape_of-words : goal.shape_of-words
 shape_of-words c = c.put_last.auto.words ∙ c.put_next_two-k.auto.words ∙ c.put_next_four-j.auto.words ∙ c.put_eight-i.auto.words
 
 pub returns : goal.returns
-returns c = let a = c.args in
+returns c =
+    let a = c.args in
     let r = a.r.now in
     let l = a.words.now in
     let n = c.size-n in

@@ -12,10 +12,10 @@ pub returns-then-w-eq65535 : goal.returns-then-w-eq65535
 returns-then-w-eq65535 c =
     let read : ℕ = number (take 2 (drop c.args.at c.args.s.now)) in
     let is_read : c.le_two-w.result ≡ read = c.le_two-w.ensures.0 ∙ two_bytes c.args.s.now c.args.at in
-    sym (ap (λ (t : Bool). cond t separator (read)) (eq-eqb _ _ (sym (is_read) ∙ c.if-w-eq65535.true)))
+    sym (ap (λ (t : Bool). cond t separator read) (eq-eqb _ _ (sym is_read ∙ c.if-w-eq65535.true)))
 
 pub returns : goal.returns
 returns c =
     let read : ℕ = number (take 2 (drop c.args.at c.args.s.now)) in
     let is_read : c.le_two-w.result ≡ read = c.le_two-w.ensures.0 ∙ two_bytes c.args.s.now c.args.at in
-    is_read ∙ sym (ap (λ (t : Bool). cond t separator (read)) (ne_eqb _ _ (λ z. c.if-w-eq65535.false (is_read ∙ z))))
+    is_read ∙ sym (ap (λ (t : Bool). cond t separator read) (ne_eqb _ _ (λ z. c.if-w-eq65535.false (is_read ∙ z))))

@@ -1,4 +1,4 @@
-use Prim.Native.Nat.{ℕ, ◌+◌, ◌-◌, ◌≤◌, ◌<◌}
+use Prim.Native.Nat.{ℕ, ◌+◌, ◌≤◌, ◌<◌}
 use mathlib.Core.List.{List}
 use mathlib.Core.Path.{ap₂, subst₂, refl, sym, ap, ◌∙◌}
 use native.Mathlib.Omega.{arith}
@@ -29,15 +29,17 @@ pub letter_of-l-requires : goal.letter_of-l-requires
 letter_of-l-requires c = tt
 
 pub refusal_of-n-requires : goal.refusal_of-n-requires
-refusal_of-n-requires c = let a = c.args in
+refusal_of-n-requires c =
+    let a = c.args in
     let lt : c.loop-at.at < length a.bytes.now = c.loop-at-test.true in
-    (part_length a.bytes.now c.loop-at.at (fits a.bytes.now c.loop-at.stage c.loop-at.p c.loop-at.at c.loop-at.invariant (lt)), c.letter_of-l.ensures)
+    (part_length a.bytes.now c.loop-at.at (fits a.bytes.now c.loop-at.stage c.loop-at.p c.loop-at.at c.loop-at.invariant lt), c.letter_of-l.ensures)
 
 pub tally_of-requires : goal.tally_of-requires
 tally_of-requires c = tt
 
 pub returns-then-n-ne0 : goal.returns-then-n-ne0
-returns-then-n-ne0 c = let a = c.args in
+returns-then-n-ne0 c =
+    let a = c.args in
     let lt : c.loop-at.at < length a.bytes.now = c.loop-at-test.true in
     let n = c.refusal_of-n.ensures ∙ ap (record_refusal c.loop-at.stage) (part32 a.bytes.now c.loop-at.at) in
     let q = c.tally_of.ensures in
@@ -49,20 +51,27 @@ returns-then-n-ne0 c = let a = c.args in
     }
 
 pub place_after-p-requires : goal.place_after-p-requires
-place_after-p-requires c = let a = c.args in
-    let lt : c.loop-at.at < length a.bytes.now = c.loop-at-test.true in
-    (part_length a.bytes.now c.loop-at.at (fits a.bytes.now c.loop-at.stage c.loop-at.p c.loop-at.at c.loop-at.invariant (lt)), omega (arith, c.loop-at.invariant.few_coords_lem, c.requires.1, lt), omega (arith, c.loop-at.invariant.few_cells_lem, c.requires.1, lt), omega (arith, c.loop-at.invariant.few_words, c.requires.1, lt))
+place_after-p-requires c =
+    let a = c.args in
+    let lt : c.loop-at.at < length a.bytes.now = c.loop-at-test.true in (
+      part_length a.bytes.now c.loop-at.at (fits a.bytes.now c.loop-at.stage c.loop-at.p c.loop-at.at c.loop-at.invariant lt),
+      omega (arith, c.loop-at.invariant.few_coords_lem, c.requires.1, lt),
+      omega (arith, c.loop-at.invariant.few_cells_lem, c.requires.1, lt),
+      omega (arith, c.loop-at.invariant.few_words, c.requires.1, lt),
+    )
 
 pub stage_after-stage-requires : goal.stage_after-stage-requires
-stage_after-stage-requires c = let a = c.args in
+stage_after-stage-requires c =
+    let a = c.args in
     let lt : c.loop-at.at < length a.bytes.now = c.loop-at-test.true in
-    part_length a.bytes.now c.loop-at.at (fits a.bytes.now c.loop-at.stage c.loop-at.p c.loop-at.at c.loop-at.invariant (lt))
+    part_length a.bytes.now c.loop-at.at (fits a.bytes.now c.loop-at.stage c.loop-at.p c.loop-at.at c.loop-at.invariant lt)
 
 pub loop-at-smaller : goal.loop-at-smaller
 loop-at-smaller c = omega (arith, c.loop-at-test.true)
 
 pub loop-at-preserved : goal.loop-at-preserved
-loop-at-preserved c = let a = c.args in
+loop-at-preserved c =
+    let a = c.args in
     let lt : c.loop-at.at < length a.bytes.now = c.loop-at-test.true in
     let e = part32 a.bytes.now c.loop-at.at in
     let r = take 32 (drop c.loop-at.at a.bytes.now) in
@@ -76,7 +85,8 @@ pub tally_of-requires-then-stage-ne3 : goal.tally_of-requires-then-stage-ne3
 tally_of-requires-then-stage-ne3 c = tt
 
 pub returns-then-stage-ne3 : goal.returns-then-stage-ne3
-returns-then-stage-ne3 c = let a = c.args in
+returns-then-stage-ne3 c =
+    let a = c.args in
     let e : length a.bytes.now ≤ c.loop-at.at = c.loop-at-test.false in
     let q = c.tally_of-then-stage-ne3.ensures in
     record {
@@ -90,7 +100,8 @@ pub tally_of-requires-2 : goal.tally_of-requires-2
 tally_of-requires-2 c = tt
 
 pub returns : goal.returns
-returns c = let a = c.args in
+returns c =
+    let a = c.args in
     let e : length a.bytes.now ≤ c.loop-at.at = c.loop-at-test.false in
     let q = c.tally_of-2.ensures in
     record {

@@ -1,6 +1,5 @@
 use Prim.Native.Nat.{◌-◌}
 use lib.ListN.{length}
-use Rattle.model_file.specs.Records.{stage}
 use Rattle.model_read.proofs.JudgePass.{Judging}
 use Rattle.model_read.proofs.judging.judge_all.Given as goal
 

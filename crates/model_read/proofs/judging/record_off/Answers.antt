@@ -35,7 +35,8 @@ pub zero_sixteen-requires : goal.zero_sixteen-requires
 zero_sixteen-requires c = omega (arith, c)
 
 pub returns-in-Node : goal.returns-in-Node
-returns-in-Node c = let r = c.args.r.now in
+returns-in-Node c =
+    let r = c.args.r.now in
     ap not (ap₂ ◌&&◌ c.zero_four.ensures c.zero_four-in-Node.ensures ∙ sym (zeros_cover 1 5 4 8 r (omega arith) (omega arith) (omega arith)))
     ∙ sym (ap (λ (l : Letter). record_off l r) c.in-Node.is)
 

@@ -11,7 +11,8 @@ pub first_of-requires : goal.first_of-requires
 first_of-requires c = tt
 
 pub returns : goal.returns
-returns c = let a = c.args in
+returns c =
+    let a = c.args in
     let e = c.requires.1 in
     c.first_of.ensures
     ∙ ap₂ (λ (t u : Bool). cond t 2 (cond u 3 0)) (c.letter_off-misplaced.ensures ∙ ap (misplaced a.s) e) (c.record_off-wrong.ensures ∙ ap (λ (l : Letter). record_off l a.r.now) e)

@@ -22,7 +22,8 @@ pub returns-then-r-ne0 : goal.returns-then-r-ne0
 returns-then-r-ne0 c = sym (simp (le-leb _ _ c.if-n-least.false, le-leb _ _ c.if-n-gt14.false, ne_eqb _ _ c.if-r-ne0.true))
 
 pub returns-then-n-eq14 : goal.returns-then-n-eq14
-returns-then-n-eq14 c = let r = c.args.r.now in
+returns-then-n-eq14 c =
+    let r = c.args.r.now in
     let n : count r ≡ 14 = c.if-n-eq14.true in
     sym (simp (le-leb _ _ c.if-n-least.false, le-leb _ _ c.if-n-gt14.false, eq-eqb _ _ c.if-r-ne0.false, zeros_end (4 + 2 * count r) 32 r (omega arith) (omega arith)))
 

@@ -4,5 +4,6 @@ use Rattle.model_read.proofs.ZeroBytes.{zero_read}
 use Rattle.model_read.proofs.judging.zero_four.Goals as goal
 
 pub returns : goal.returns
-returns c = let a = c.args in
+returns c =
+    let a = c.args in
     zero_read (slice a.at (a.at + 4) a.r.now) c.le_four.result c.le_four.ensures.0

@@ -17,7 +17,8 @@ pub zero_eight-requires-2 : goal.zero_eight-requires-2
 zero_eight-requires-2 c = omega (arith, c)
 
 pub returns : goal.returns
-returns c = let a = c.args in
+returns c =
+    let a = c.args in
     let e : a.at + 8 + 8 ≡ a.at + 16 = omega arith in
     ap₂ ◌&&◌ c.zero_eight.ensures (c.zero_eight-2.ensures ∙ ap (λ (n : ℕ). zeros (slice (a.at + 8) n a.r.now)) e)
     ∙ sym (zeros_cover a.at (a.at + 8) (a.at + 8) (a.at + 16) a.r.now (omega arith) (omega arith) (omega arith))

@@ -3,9 +3,11 @@ use Rattle.partially_shared.proofs.Listing.{list_room, list_full}
 use Rattle.partially_shared.proofs.noting.list_cell.Goals as goal
 
 pub returns-then-n-words : goal.returns-then-n-words
-returns-then-n-words c = let a = c.args in
+returns-then-n-words c =
+    let a = c.args in
     list_room a.l a.b c.narrow.result a.n a.work.now c.if-n-words.true c.narrow.ensures
 
 pub returns : goal.returns
-returns c = let a = c.args in
+returns c =
+    let a = c.args in
     list_full a.l a.b a.n a.work.now c.if-n-words.false

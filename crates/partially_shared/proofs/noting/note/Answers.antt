@@ -3,7 +3,6 @@ use Prim.Native.Nat.{ℕ, ◌+◌, ◌<◌}
 use mathlib.Core.List.{List, [], ◌∷◌, ◌++◌}
 use mathlib.Core.Path.{sym, ap, ◌∙◌, subst}
 use native.Mathlib.Omega.{arith}
-use borrow.Author.Tests.{not-false}
 use lib.ListN.{get_or}
 use lib.Seq.{length-take-le}
 use Rattle.index.specs.Faces.{input}
@@ -15,20 +14,26 @@ use Rattle.partially_shared.proofs.Marking.{spans_is, beside_self, marked_out, m
 use Rattle.partially_shared.proofs.noting.note.Goals as goal
 
 pub returns-then-work-m-ne0 : goal.returns-then-work-m-ne0
-returns-then-work-m-ne0 c = let a = c.args in
+returns-then-work-m-ne0 c =
+    let a = c.args in
     let w = a.work.now in
     let t = input a.l.at w in
     let R = plain_rules a.coords.now a.tol in
     let e = c.cell_of-b.ensures in
     let low = subst (λ (x : ℕ). x < a.l.at.cell_count) e.0 e.1 in
-    record { marked_more = λ hits p. marked_kept R a.l t a.f a.g hits w a.r p low (λ z. c.if-work-m-ne0.true (ap (λ (x : ℕ). get_or w (a.l.marks + x) 0) e.0 ∙ z)); beside = (beside_self a.l.marks a.l w, c.requires.f_lt_faces.3) }
+    record {
+      marked_more = λ hits p. marked_kept R a.l t a.f a.g hits w a.r p low (λ z. c.if-work-m-ne0.true (ap (λ (x : ℕ). get_or w (a.l.marks + x) 0) e.0 ∙ z));
+      beside = (beside_self a.l.marks a.l w, c.requires.f_lt_faces.3);
+    }
 
 pub slice_bounds-spans-end-2 : goal.slice_bounds-spans-end-2
-slice_bounds-spans-end-2 c = let p = c.requires.searching.spaced in
+slice_bounds-spans-end-2 c =
+    let p = c.requires.searching.spaced in
     sym (length-take-le c.args.l.at.found c.args.work.now (omega (arith, p.marks_at, p.others_at, p.last_at, p.pairs_at, p.spare_at, p.ends)))
 
 pub returns-then-not-spans : goal.returns-then-not-spans
-returns-then-not-spans c = let a = c.args in
+returns-then-not-spans c =
+    let a = c.args in
     let w = a.work.now in
     let t = input a.l.at w in
     let R = plain_rules a.coords.now a.tol in
@@ -37,15 +42,18 @@ returns-then-not-spans c = let a = c.args in
     record { marked_more = λ hits p. marked_out R a.l t a.f a.g hits w a.r p no; beside = (beside_self a.l.marks a.l w, c.requires.f_lt_faces.3) }
 
 pub list_cell-count-requires : goal.list_cell-count-requires
-list_cell-count-requires c = let p = c.requires.searching.spaced in
+list_cell-count-requires c =
+    let p = c.requires.searching.spaced in
     let y = c.mark in
     record { spaced = subst (Spaced c.args.l) (sym y.auto.work) p; b_bound = c.cell_of-b.ensures.1 }
 
 pub widen-requires : goal.widen-requires
-widen-requires c = let h = c.cell_of-b.ensures.1 in let p = c.requires.searching.spaced.few_cells in omega (arith, h, p)
+widen-requires c =
+    let h = c.cell_of-b.ensures.1 in let p = c.requires.searching.spaced.few_cells in omega (arith, h, p)
 
 pub returns : goal.returns
-returns c = let a = c.args in
+returns c =
+    let a = c.args in
     let w = a.work.now in
     let t = input a.l.at w in
     let R = plain_rules a.coords.now a.tol in
@@ -62,4 +70,7 @@ returns c = let a = c.args in
     let more : MarkedMore a.l t (passing R a.l t a.f (a.g ∷ [])) w y.new.work a.r c.widen.result =
     λ hits p. subst (λ (v : List ℕ). Marked a.l t (hits ++ passing R a.l t a.f (a.g ∷ [])) v c.widen.result) (sym m)
     (marked_in R a.l t a.f a.g hits w a.r p sp i e.0 e.1 c.widen.result z yes (d.0, d.1, d.2, d.3 ∙ y.ensures.0)) in
-    record { marked_more = more; beside = (subst (Beside a.l.marks a.l w) (sym m) (noted_beside a.l w i a.r.count (a.f + 1) a.g sp e.1), d.2.least a.l.at.cell_count c.requires.f_lt_faces.3 (omega (arith, e.1))) }
+    record {
+      marked_more = more;
+      beside = (subst (Beside a.l.marks a.l w) (sym m) (noted_beside a.l w i a.r.count (a.f + 1) a.g sp e.1), d.2.least a.l.at.cell_count c.requires.f_lt_faces.3 (omega (arith, e.1)));
+    }

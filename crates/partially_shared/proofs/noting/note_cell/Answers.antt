@@ -21,7 +21,8 @@ pub first_face-f-requires : goal.first_face-f-requires
 first_face-f-requires c = record { faced = c.requires.standing.faced; c_bound = omega (arith, c.requires.c_bound.0) }
 
 pub loop-f-init : goal.loop-f-init
-loop-f-init c = let a = c.args in
+loop-f-init c =
+    let a = c.args in
     let none : 0 ≡ c.first_face-f.result - c.first_face-f.result = omega arith in (
       facing_start (plain_rules a.coords.now a.tol) a.l a.work.now _ c.first_face-f.result c.requires.standing refl refl,
       omega arith,
@@ -31,7 +32,8 @@ loop-f-init c = let a = c.args in
     )
 
 pub note_face-s-requires : goal.note_face-s-requires
-note_face-s-requires c = let a = c.args in
+note_face-s-requires c =
+    let a = c.args in
     let o = c.loop-f in
     let y = c.first_face-end in
     let low = c.loop-f-test.true in
@@ -47,7 +49,8 @@ note_face-s-requires c = let a = c.args in
     }
 
 pub loop-f-preserved : goal.loop-f-preserved
-loop-f-preserved c = let a = c.args in
+loop-f-preserved c =
+    let a = c.args in
     let o = c.loop-f in
     let y = c.note_face-s in
     let next = facing_next (plain_rules a.coords.now a.tol) a.l _ a.work.now o.work _ o.s.range y.result.range o.f (searches a.l a.work.now c.requires.standing) o.invariant.2 o.invariant.0 y.ensures.marked_more y.ensures.beside.0 y.ensures.beside.1 in (
@@ -59,8 +62,14 @@ loop-f-preserved c = let a = c.args in
     )
 
 pub returns : goal.returns
-returns c = let a = c.args in
+returns c =
+    let a = c.args in
     let o = c.loop-f in
     let t = input a.l.at a.work.now in
     let done : o.f ≡ first_of a.l t (a.c + 1) = omega (arith, o.invariant.3, c.loop-f-test.false, c.first_face-end.ensures.0) in
-    let all : o.f - c.first_face-f.result ≡ face_count a.l t a.c = omega (arith, done, c.first_face-f.ensures.0) in record { marked = facing_end (plain_rules a.coords.now a.tol) a.l a.work.now o.work o.s.range a.c _ o.f c.first_face-f.ensures.0 done o.invariant.0; beside = (o.invariant.0.beside, o.invariant.0.high); tallied_more = subst (λ (n : ℕ). TalliedMore a.by_nodes n a.tally o.s.tally) all o.invariant.4 }
+    let all : o.f - c.first_face-f.result ≡ face_count a.l t a.c = omega (arith, done, c.first_face-f.ensures.0) in
+    record {
+      marked = facing_end (plain_rules a.coords.now a.tol) a.l a.work.now o.work o.s.range a.c _ o.f c.first_face-f.ensures.0 done o.invariant.0;
+      beside = (o.invariant.0.beside, o.invariant.0.high);
+      tallied_more = subst (λ (n : ℕ). TalliedMore a.by_nodes n a.tally o.s.tally) all o.invariant.4;
+    }

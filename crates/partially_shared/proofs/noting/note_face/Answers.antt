@@ -10,10 +10,14 @@ use Rattle.partially_shared.proofs.Searched.{face_ready, searching_on, beside_le
 use Rattle.partially_shared.proofs.noting.note_face.Goals as goal
 
 pub candidates_of-found-requires : goal.candidates_of-found-requires
-candidates_of-found-requires c = record { ready = (face_ready c.args.l c.args.work.now c.args.f c.requires.searching c.requires.f_lt_faces.0, c.requires.f_lt_faces.3); end_le_faces = c.requires.end_le_faces }
+candidates_of-found-requires c = record {
+  ready = (face_ready c.args.l c.args.work.now c.args.f c.requires.searching c.requires.f_lt_faces.0, c.requires.f_lt_faces.3);
+  end_le_faces = c.requires.end_le_faces;
+}
 
 pub note_found-range-requires : goal.note_found-range-requires
-note_found-range-requires c = let a = c.args in
+note_found-range-requires c =
+    let a = c.args in
     let y = c.candidates_of-found in
     let v = y.new.work in
     let s = c.requires.searching in
@@ -30,11 +34,17 @@ note_found-range-requires c = let a = c.args in
     }
 
 pub returns : goal.returns
-returns c = let a = c.args in
+returns c =
+    let a = c.args in
     let y = c.candidates_of-found in
     let v = y.new.work in
     let z = c.note_found-range in
     let s = c.requires.searching in
     let q = y.ensures.sought_by.sought in
     let n = found_in y.result in
-    let m = sought_beside a.l a.work.now v a.f n s q in record { marked_more = sought_more a.l a.work.now v a.f n s q (plain_rules a.coords.now a.tol) z.new.work a.r.range z.result z.ensures.marked_more; beside = (beside_then a.l.at.found a.l a.work.now v _ m (beside_less a.l.at.found a.l.marks a.l v _ (omega (arith, s.spaced.marks_at)) z.ensures.beside.0), z.ensures.beside.1); tallied_more = subst (λ (by : Bool). TalliedMore by 1 a.r.tally c.tallied-more.result) y.ensures.sought_by.way c.tallied-more.ensures }
+    let m = sought_beside a.l a.work.now v a.f n s q in
+    record {
+      marked_more = sought_more a.l a.work.now v a.f n s q (plain_rules a.coords.now a.tol) z.new.work a.r.range z.result z.ensures.marked_more;
+      beside = (beside_then a.l.at.found a.l a.work.now v _ m (beside_less a.l.at.found a.l.marks a.l v _ (omega (arith, s.spaced.marks_at)) z.ensures.beside.0), z.ensures.beside.1);
+      tallied_more = subst (λ (by : Bool). TalliedMore by 1 a.r.tally c.tallied-more.result) y.ensures.sought_by.way c.tallied-more.ensures;
+    }

@@ -7,10 +7,10 @@ use Rattle.snap.proofs.Parts.{in_slice}
 use Rattle.snap.proofs.passing.step_on.Goals as goal
 
 pub point3-m-requires : goal.point3-m-requires
-point3-m-requires c = let s = c in
-    let a = s.args in
+point3-m-requires c =
+    let a = c.args in
     let k : a.last + a.step < a.e = omega arith in
-    let h = in_slice _ a.j a.e (a.last + a.step) a.work.now s.requires.2 s.requires.3 (omega arith) k in
+    let h = in_slice _ a.j a.e (a.last + a.step) a.work.now c.requires.2 c.requires.3 (omega arith) k in
     omega arith
 
 pub returns-then-passed : goal.returns-then-passed

@@ -7,49 +7,41 @@ use Rattle.snap.proofs.sweeping.lead.Goals as goal
 pub taken-requires : goal.taken-requires
 taken-requires c =
     let leading : Leading c.args.coords.now c.args.tol c.args.work.now c.args.i c.args.e c.args.g c.args.k c.args.size = record { some = c.requires.0; before = c.requires.1; room = c.requires.2; marks = c.requires.3; nodes = c.requires.6 } in
-    let s = c in omega (arith, leader_node (leading), s.requires.3)
+    omega (arith, leader_node leading, c.requires.3)
 
 pub returns-then-taken : goal.returns-then-taken
 returns-then-taken c =
     let leading : Leading c.args.coords.now c.args.tol c.args.work.now c.args.i c.args.e c.args.g c.args.k c.args.size = record { some = c.requires.0; before = c.requires.1; room = c.requires.2; marks = c.requires.3; nodes = c.requires.6 } in
-    (skipped (leading) c.taken.ensures c.if-taken.true, (refl, refl))
+    (skipped leading c.taken.ensures c.if-taken.true, (refl, refl))
 
 pub takes-end-requires : goal.takes-end-requires
 takes-end-requires c =
     let leading : Leading c.args.coords.now c.args.tol c.args.work.now c.args.i c.args.e c.args.g c.args.k c.args.size = record { some = c.requires.0; before = c.requires.1; room = c.requires.2; marks = c.requires.3; nodes = c.requires.6 } in
-    let s = c in
-    takes_asks (leading) s.requires.4 s.requires.7 s.requires.8
+    takes_asks leading c.requires.4 c.requires.7 c.requires.8
 
 pub least-m-requires : goal.least-m-requires
 least-m-requires c =
     let leading : Leading c.args.coords.now c.args.tol c.args.work.now c.args.i c.args.e c.args.g c.args.k c.args.size = record { some = c.requires.0; before = c.requires.1; room = c.requires.2; marks = c.requires.3; nodes = c.requires.6 } in
-    let t = c in
-    least_asks (leading) t.takes-end.ensures
+    least_asks leading c.takes-end.ensures
 
 pub overflow_add-m : goal.overflow_add-m
 overflow_add-m c =
     let leading : Leading c.args.coords.now c.args.tol c.args.work.now c.args.i c.args.e c.args.g c.args.k c.args.size = record { some = c.requires.0; before = c.requires.1; room = c.requires.2; marks = c.requires.3; nodes = c.requires.6 } in
-    let t = c in
-    let s = t in
-    omega (arith, least_below (leading) t.takes-end.ensures c.least-m.ensures, s.requires.5)
+    omega (arith, least_below leading c.takes-end.ensures c.least-m.ensures, c.requires.5)
 
 pub put-requires : goal.put-requires
 put-requires c =
     let leading : Leading c.args.coords.now c.args.tol c.args.work.now c.args.i c.args.e c.args.g c.args.k c.args.size = record { some = c.requires.0; before = c.requires.1; room = c.requires.2; marks = c.requires.3; nodes = c.requires.6 } in
-    let t = c in
-    put_asks (leading) t.takes-end.ensures
+    put_asks leading c.takes-end.ensures
 
 pub shape_of-work : goal.shape_of-work
 shape_of-work c =
     let leading : Leading c.args.coords.now c.args.tol c.args.work.now c.args.i c.args.e c.args.g c.args.k c.args.size = record { some = c.requires.0; before = c.requires.1; room = c.requires.2; marks = c.requires.3; nodes = c.requires.6 } in
-    let t = c in
-    c.put.auto.work ∙ size_is (leading) t.takes-end.ensures
+    c.put.auto.work ∙ size_is leading c.takes-end.ensures
 
 pub returns : goal.returns
 returns c =
     let leading : Leading c.args.coords.now c.args.tol c.args.work.now c.args.i c.args.e c.args.g c.args.k c.args.size = record { some = c.requires.0; before = c.requires.1; room = c.requires.2; marks = c.requires.3; nodes = c.requires.6 } in
-    let t = c in
-    let s = t in
-    turned (leading) t.takes-end.ensures
-    c.taken.ensures t.if-taken.false
+    turned leading c.takes-end.ensures
+    c.taken.ensures c.if-taken.false
     c.least-m.ensures c.put.ensures

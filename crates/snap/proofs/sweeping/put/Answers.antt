@@ -18,10 +18,8 @@ overflow_cast-work c =
     let value : get_or c.loop-j.work c.loop-j.j 0 ≡ get_or c.args.work.now c.loop-j.j 0 = let at = c in
     let s = at in
     read_to s.args.k at.loop-j.j at.loop-j.work s.args.work.now at.loop-j.invariant.3 (omega arith) in
-    let node : get_or c.loop-j.work c.loop-j.j 0 < c.args.size = let at = c in
-    let s = at in
-    let b : s.args.e ≤ length s.args.work.now = omega arith in
-    rw (value) (in_slice _ s.args.g s.args.e at.loop-j.j s.args.work.now b s.requires.3 at.loop-j.invariant.0 c.loop-j-test.true) in
+    let node : get_or c.loop-j.work c.loop-j.j 0 < c.args.size = let b : c.args.e ≤ length c.args.work.now = omega arith in
+    rw value (in_slice _ c.args.g c.args.e c.loop-j.j c.args.work.now b c.requires.3 c.loop-j.invariant.0 c.loop-j-test.true) in
     let h = node in omega arith
 
 pub overflow_add-work : goal.overflow_add-work
@@ -29,10 +27,8 @@ overflow_add-work c =
     let value : get_or c.loop-j.work c.loop-j.j 0 ≡ get_or c.args.work.now c.loop-j.j 0 = let at = c in
     let s = at in
     read_to s.args.k at.loop-j.j at.loop-j.work s.args.work.now at.loop-j.invariant.3 (omega arith) in
-    let node : get_or c.loop-j.work c.loop-j.j 0 < c.args.size = let at = c in
-    let s = at in
-    let b : s.args.e ≤ length s.args.work.now = omega arith in
-    rw (value) (in_slice _ s.args.g s.args.e at.loop-j.j s.args.work.now b s.requires.3 at.loop-j.invariant.0 c.loop-j-test.true) in
+    let node : get_or c.loop-j.work c.loop-j.j 0 < c.args.size = let b : c.args.e ≤ length c.args.work.now = omega arith in
+    rw value (in_slice _ c.args.g c.args.e c.loop-j.j c.args.work.now b c.requires.3 c.loop-j.invariant.0 c.loop-j-test.true) in
     let h = node in omega arith
 
 pub offset_bounds-work-k : goal.offset_bounds-work-k
@@ -40,10 +36,8 @@ offset_bounds-work-k c =
     let value : get_or c.loop-j.work c.loop-j.j 0 ≡ get_or c.args.work.now c.loop-j.j 0 = let at = c in
     let s = at in
     read_to s.args.k at.loop-j.j at.loop-j.work s.args.work.now at.loop-j.invariant.3 (omega arith) in
-    let node : get_or c.loop-j.work c.loop-j.j 0 < c.args.size = let at = c in
-    let s = at in
-    let b : s.args.e ≤ length s.args.work.now = omega arith in
-    rw (value) (in_slice _ s.args.g s.args.e at.loop-j.j s.args.work.now b s.requires.3 at.loop-j.invariant.0 c.loop-j-test.true) in
+    let node : get_or c.loop-j.work c.loop-j.j 0 < c.args.size = let b : c.args.e ≤ length c.args.work.now = omega arith in
+    rw value (in_slice _ c.args.g c.args.e c.loop-j.j c.args.work.now b c.requires.3 c.loop-j.invariant.0 c.loop-j-test.true) in
     let h = node in omega arith
 
 pub bounds-work-k : goal.bounds-work-k
@@ -51,10 +45,8 @@ bounds-work-k c =
     let value : get_or c.loop-j.work c.loop-j.j 0 ≡ get_or c.args.work.now c.loop-j.j 0 = let at = c in
     let s = at in
     read_to s.args.k at.loop-j.j at.loop-j.work s.args.work.now at.loop-j.invariant.3 (omega arith) in
-    let node : get_or c.loop-j.work c.loop-j.j 0 < c.args.size = let at = c in
-    let s = at in
-    let b : s.args.e ≤ length s.args.work.now = omega arith in
-    rw (value) (in_slice _ s.args.g s.args.e at.loop-j.j s.args.work.now b s.requires.3 at.loop-j.invariant.0 c.loop-j-test.true) in
+    let node : get_or c.loop-j.work c.loop-j.j 0 < c.args.size = let b : c.args.e ≤ length c.args.work.now = omega arith in
+    rw value (in_slice _ c.args.g c.args.e c.loop-j.j c.args.work.now b c.requires.3 c.loop-j.invariant.0 c.loop-j-test.true) in
     let h = node in omega arith
 
 pub loop-j-preserved : goal.loop-j-preserved
@@ -62,24 +54,21 @@ loop-j-preserved c =
     let value : get_or c.loop-j.work c.loop-j.j 0 ≡ get_or c.args.work.now c.loop-j.j 0 = let at = c in
     let s = at in
     read_to s.args.k at.loop-j.j at.loop-j.work s.args.work.now at.loop-j.invariant.3 (omega arith) in
-    let at = c in
-    let s = at in
-    let l = s.args.work.now in
-    let j<e : at.loop-j.j < s.args.e = omega arith in
-    let b : s.args.e ≤ length l = omega arith in
-    let x = get_or at.loop-j.work at.loop-j.j 0 in (
+    let l = c.args.work.now in
+    let j<e : c.loop-j.j < c.args.e = omega arith in
+    let b : c.args.e ≤ length l = omega arith in
+    let x = get_or c.loop-j.work c.loop-j.j 0 in (
       omega arith,
       omega arith,
-      simp length-set at.loop-j.invariant.2,
-      take-set-le s.args.k at.loop-j.work (s.args.k + x) s.args.v (omega arith) ∙ at.loop-j.invariant.3,
-      rw (add-one at.loop-j.j, value) (rw (slice-cons at.loop-j.j s.args.e l 0 j<e b) at at.loop-j.invariant.4),
+      simp length-set c.loop-j.invariant.2,
+      take-set-le c.args.k c.loop-j.work (c.args.k + x) c.args.v (omega arith) ∙ c.loop-j.invariant.3,
+      rw (add-one c.loop-j.j, value) (rw (slice-cons c.loop-j.j c.args.e l 0 j<e b) at c.loop-j.invariant.4),
     )
 
 pub shape_of-work : goal.shape_of-work
 shape_of-work c = c.loop-j.invariant.2
 
 pub returns : goal.returns
-returns c = let at = c in
-    let s = at in
-    let h : s.args.e ≤ at.loop-j.j = omega arith in
-    rw (slice_none at.loop-j.j s.args.e s.args.work.now h) at at.loop-j.invariant.4
+returns c =
+    let h : c.args.e ≤ c.loop-j.j = omega arith in
+    rw (slice_none c.loop-j.j c.args.e c.args.work.now h) at c.loop-j.invariant.4

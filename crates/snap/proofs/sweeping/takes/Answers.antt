@@ -6,28 +6,24 @@ use Rattle.snap.proofs.Taking.{begun, ended, is_node, skipped, jumped, stopped, 
 use Rattle.snap.proofs.sweeping.takes.Goals as goal
 
 pub loop-j-init : goal.loop-j-init
-loop-j-init c = let s = c in begun _ _ _ _ _ _ _ s.requires.0
+loop-j-init c = begun _ _ _ _ _ _ _ c.requires.0
 
 pub point3-b-requires : goal.point3-b-requires
 point3-b-requires c =
     let in_work : c.args.e ≤ length c.args.work.now = omega (arith, c.requires.1, c.requires.2, c.requires.3) in
-    let next_node : get_or c.loop-j.work c.loop-j.j 0 < length c.args.coords.now / 3 = let s = c in
-    is_node c.loop-j.invariant c.loop-j-test.true s.requires.1 (in_work) _ s.requires.5 in
+    let next_node : get_or c.loop-j.work c.loop-j.j 0 < length c.args.coords.now / 3 = is_node c.loop-j.invariant c.loop-j-test.true c.requires.1 in_work _ c.requires.5 in
     let h = next_node in omega arith
 
 pub taken-requires : goal.taken-requires
 taken-requires c =
     let in_work : c.args.e ≤ length c.args.work.now = omega (arith, c.requires.1, c.requires.2, c.requires.3) in
-    let next_node : get_or c.loop-j.work c.loop-j.j 0 < length c.args.coords.now / 3 = let s = c in
-    is_node c.loop-j.invariant c.loop-j-test.true s.requires.1 (in_work) _ s.requires.5 in
+    let next_node : get_or c.loop-j.work c.loop-j.j 0 < length c.args.coords.now / 3 = is_node c.loop-j.invariant c.loop-j-test.true c.requires.1 in_work _ c.requires.5 in
     let h = next_node in omega arith
 
 pub loop-j-preserved-then-taken : goal.loop-j-preserved-then-taken
 loop-j-preserved-then-taken c =
     let in_work : c.args.e ≤ length c.args.work.now = omega (arith, c.requires.1, c.requires.2, c.requires.3) in
-    let l = c in
-    let s = l in
-    skipped l.loop-j.invariant l.loop-j-test.true s.requires.1 (in_work) c.taken.ensures c.if-taken.true
+    skipped c.loop-j.invariant c.loop-j-test.true c.requires.1 in_work c.taken.ensures c.if-taken.true
 
 pub shape_of-work-else-taken : goal.shape_of-work-else-taken
 shape_of-work-else-taken c = c.loop-j.invariant.size
@@ -35,58 +31,43 @@ shape_of-work-else-taken c = c.loop-j.invariant.size
 pub returns-else-taken : goal.returns-else-taken
 returns-else-taken c =
     let in_work : c.args.e ≤ length c.args.work.now = omega (arith, c.requires.1, c.requires.2, c.requires.3) in
-    let f = c in
-    let l = f in
-    let s = l in
-    stopped l.loop-j.invariant l.loop-j-test.true s.requires.1 (in_work)
-    f.point3-a.ensures f.point3-b.ensures
-    f.far.ensures c.if-far.true c.taken.ensures c.if-taken.false
+    stopped c.loop-j.invariant c.loop-j-test.true c.requires.1 in_work
+    c.point3-a.ensures c.point3-b.ensures
+    c.far.ensures c.if-far.true c.taken.ensures c.if-taken.false
 
 pub taken-requires-then-near : goal.taken-requires-then-near
 taken-requires-then-near c =
     let in_work : c.args.e ≤ length c.args.work.now = omega (arith, c.requires.1, c.requires.2, c.requires.3) in
-    let next_node : get_or c.loop-j.work c.loop-j.j 0 < length c.args.coords.now / 3 = let s = c in
-    is_node c.loop-j.invariant c.loop-j-test.true s.requires.1 (in_work) _ s.requires.5 in
+    let next_node : get_or c.loop-j.work c.loop-j.j 0 < length c.args.coords.now / 3 = is_node c.loop-j.invariant c.loop-j-test.true c.requires.1 in_work _ c.requires.5 in
     let h = next_node in omega arith
 
 pub loop-j-preserved-then-taken-2 : goal.loop-j-preserved-then-taken-2
 loop-j-preserved-then-taken-2 c =
     let in_work : c.args.e ≤ length c.args.work.now = omega (arith, c.requires.1, c.requires.2, c.requires.3) in
-    let l = c in
-    let s = l in
-    skipped l.loop-j.invariant l.loop-j-test.true s.requires.1 (in_work) c.taken-then-near.ensures c.if-taken-2.true
+    skipped c.loop-j.invariant c.loop-j-test.true c.requires.1 in_work c.taken-then-near.ensures c.if-taken-2.true
 
 pub loop-j-preserved-else-taken-2 : goal.loop-j-preserved-else-taken-2
 loop-j-preserved-else-taken-2 c =
     let in_work : c.args.e ≤ length c.args.work.now = omega (arith, c.requires.1, c.requires.2, c.requires.3) in
-    let n = c in
-    let f = n in
-    let l = f in
-    let s = l in
-    joined l.loop-j.invariant l.loop-j-test.true s.requires.1 (in_work)
-    f.point3-a.ensures f.point3-b.ensures
-    s.requires.2 f.far.ensures n.if-far.false n.near.ensures c.if-near.true c.taken-then-near.ensures c.if-taken-2.false
+    joined c.loop-j.invariant c.loop-j-test.true c.requires.1 in_work
+    c.point3-a.ensures c.point3-b.ensures
+    c.requires.2 c.far.ensures c.if-far.false c.near.ensures c.if-near.true c.taken-then-near.ensures c.if-taken-2.false
 
 pub past-j-requires : goal.past-j-requires
 past-j-requires c =
     let in_work : c.args.e ≤ length c.args.work.now = omega (arith, c.requires.1, c.requires.2, c.requires.3) in
-    let n = c in
-    let f = n in
-    let l = f in
-    let s = l in
-    past_asks l.loop-j.invariant l.loop-j-test.true s.requires.1 (in_work)
-    f.point3-a.ensures f.point3-b.ensures
-    f.far.ensures n.if-far.false n.near.ensures c.if-near.false s.requires.4 s.requires.5 s.requires.6 s.requires.7
+    past_asks c.loop-j.invariant c.loop-j-test.true c.requires.1 in_work
+    c.point3-a.ensures c.point3-b.ensures
+    c.far.ensures c.if-far.false c.near.ensures c.if-near.false c.requires.4 c.requires.5 c.requires.6 c.requires.7
 
 pub loop-j-smaller : goal.loop-j-smaller
-loop-j-smaller c = let h = c.past-j.ensures in omega arith
+loop-j-smaller c =
+    let h = c.past-j.ensures in omega arith
 
 pub loop-j-preserved : goal.loop-j-preserved
 loop-j-preserved c =
     let in_work : c.args.e ≤ length c.args.work.now = omega (arith, c.requires.1, c.requires.2, c.requires.3) in
-    let l = c in
-    let s = l in
-    jumped l.loop-j.invariant l.loop-j-test.true s.requires.1 (in_work) c.past-j.result c.past-j.ensures
+    jumped c.loop-j.invariant c.loop-j-test.true c.requires.1 in_work c.past-j.result c.past-j.ensures
 
 pub shape_of-work : goal.shape_of-work
 shape_of-work c = c.loop-j.invariant.size
