@@ -7,7 +7,7 @@
  * The first way differs from the program only where the program's own limits apply: input over 32,768 bytes, more than 16,384 words of
  * work, more than 512 findings kept.
  *
- *   rt staticlib capi && gcc -std=c11 -Wall -Wextra -Iinclude -o check_file examples/check_file.c target/staticlib/libcapi.a */
+ *   (cd crates/capi && rt lib) && gcc -std=c11 -Wall -Wextra -Iinclude -o check_file examples/check_file.c crates/capi/out/libcapi.a */
 #include "lenoshale.h"
 
 #include <stdio.h>

@@ -1,4 +1,4 @@
-/* Lenoshale for C and C++: every operation of document 01, from the static library of crate capi (`rt staticlib capi`).
+/* Lenoshale for C and C++: every operation of document 01, from the static library of crate capi (`rt lib` in crates/capi).
  *
  * Each function answers 0, or the number of a refusal. At a refusal nothing that was lent has changed. Where it answers 0, nothing
  * has changed beyond the parts named here. No function allocates, keeps a pointer, or reads or writes anything else.

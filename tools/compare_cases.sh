@@ -4,13 +4,13 @@
 # The published folders, where later orders change the answers of earlier cases: tools/order_cases.py.
 folder=$(cd "${1:-$(dirname "$0")/../crates/replay/data}" && pwd) || exit 1
 cd "$(dirname "$0")/.." || exit 1
-rt check lenoshale || exit 1
+(cd crates/lenoshale && rt run </dev/null >/dev/null) || exit 1
 cases=0
 agree=0
 for input in "$folder"/*.in; do
     [ -f "$input" ] || continue
     cases=$((cases + 1))
-    if target/bin/lenoshale <"$input" | cmp -s - "${input%.in}.out"; then
+    if crates/lenoshale/out/lenoshale <"$input" | cmp -s - "${input%.in}.out"; then
         agree=$((agree + 1))
     else
         echo "$(basename "$input"): the output differs"

@@ -1,13 +1,12 @@
 #!/usr/bin/env bash
 # tools/edits.sh NAME...: tries the edits in crates/NAME/more-edits/, which the gate leaves out, as `rt must-fail` tries those in
-# must-fail/: the prover must refuse each. It works in a copy of the repository; crates that are proved in target/ are not proved again.
+# must-fail/: the prover must refuse each. It works in a copy of the repository, and begins with what `rt check` kept here.
 # docs/PROVING.md says which edits are where, and why. With no NAME: those of all crates, which takes long.
 set -euo pipefail
 cd "$(dirname "${BASH_SOURCE[0]}")/.."
 copy=$(mktemp -d)
 trap 'rm -rf "$copy"' EXIT
-cp -R crates crates.txt "$copy"
-if [ -d target ]; then cp -R target "$copy"; fi
+tar -c --exclude=out crates crates.txt | tar -x -C "$copy"
 rm -rf "$copy"/crates/*/must-fail
 names=("$@")
 if [ $# -eq 0 ]; then

@@ -7,14 +7,14 @@
 # The exit code is 1 if one differs.
 set -euo pipefail
 cd "$(dirname "${BASH_SOURCE[0]}")/.."
-rt staticlib capi >&2
-rt check lenoshale >&2
+(cd crates/capi && rt lib) >&2
+(cd crates/lenoshale && rt run </dev/null >/dev/null)
 dir=target/link
 mkdir -p "$dir"
-gcc -std=c11 -O2 -Wall -Wextra -Werror -Iinclude -o "$dir/c" examples/check_file.c target/staticlib/libcapi.a
+gcc -std=c11 -O2 -Wall -Wextra -Werror -Iinclude -o "$dir/c" examples/check_file.c crates/capi/out/libcapi.a
 g++ -Wall -Wextra -Werror -fsyntax-only -x c++ include/lenoshale.h
 for name in check_file operations; do
-    rustc --edition 2024 -O -D warnings -o "$dir/$name" "tools/rust/src/$name.rs" -L native=target/staticlib -l static=capi
+    rustc --edition 2024 -O -D warnings -o "$dir/$name" "tools/rust/src/$name.rs" -L native=crates/capi/out -l static=capi
 done
 "$dir/operations" examples/two_cells.in
 
@@ -33,7 +33,7 @@ agrees() {
 cases=0 c=0 rust=0 past=0
 for input in crates/replay/data/*.in examples/two_cells.in; do
     cases=$((cases + 1))
-    target/bin/lenoshale <"$input" >"$dir/expected"
+    crates/lenoshale/out/lenoshale <"$input" >"$dir/expected"
     if limited "$input"; then past=$((past + 1)); fi
     if agrees "$dir/c" "$input"; then c=$((c + 1)); else echo "$input: differs from C"; fi
     if agrees "$dir/check_file" "$input"; then rust=$((rust + 1)); else echo "$input: differs from Rust"; fi

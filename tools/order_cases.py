@@ -7,9 +7,9 @@ is compared, and to lenoshale_read and lenoshale_check with the program's limits
 called in the library, with lent memory filled with one byte, then with another: what it answers is compared, and nothing may change
 beyond what it fills, and nothing at all where it refuses.
 
-The program is target/bin/lenoshale, the library target/staticlib/libcapi.a (`rt check lenoshale`, `rt staticlib capi`), unless others are
-named; the library is linked into a shared object by gcc. Prints a line for each case that differs, and `N cases: N agree`; the exit code
-is 1 where one differs."""
+The program is crates/lenoshale/out/lenoshale, the library crates/capi/out/libcapi.a (`rt run` and `rt lib` in those crates' folders),
+unless others are named; the library is linked into a shared object by gcc. Prints a line for each case that differs, and
+`N cases: N agree`; the exit code is 1 where one differs."""
 import argparse
 import ctypes
 import glob
@@ -368,8 +368,8 @@ def main():
     words = argparse.ArgumentParser(description=__doc__, formatter_class=argparse.RawDescriptionHelpFormatter)
     words.add_argument("vectors")
     words.add_argument("order", type=int)
-    words.add_argument("--program", default=os.path.join(TOP, "target", "bin", "lenoshale"))
-    words.add_argument("--library", default=os.path.join(TOP, "target", "staticlib", "libcapi.a"))
+    words.add_argument("--program", default=os.path.join(TOP, "crates", "lenoshale", "out", "lenoshale"))
+    words.add_argument("--library", default=os.path.join(TOP, "crates", "capi", "out", "libcapi.a"))
     words = words.parse_args()
     vectors, library = Vectors(words.vectors, words.order), Library(words.library)
     cases = agree = 0

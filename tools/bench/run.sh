@@ -6,8 +6,8 @@
 # LIB names another static library, which is then not built here.
 set -euo pipefail
 cd "$(dirname "${BASH_SOURCE[0]}")/../.."
-lib=${LIB:-target/staticlib/libcapi.a}
-if [ -z "${LIB:-}" ]; then rt staticlib capi >&2; fi
+lib=${LIB:-crates/capi/out/libcapi.a}
+if [ -z "${LIB:-}" ]; then (cd crates/capi && rt lib) >&2; fi
 mkdir -p target/bench
 gcc -std=gnu11 -O2 -Wall -Wextra -Iinclude -o target/bench/bench tools/bench/bench.c "$lib" -lm
 exec target/bench/bench "$@"

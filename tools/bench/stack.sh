@@ -3,5 +3,5 @@
 set -euo pipefail
 cd "$(dirname "${BASH_SOURCE[0]}")/../.."
 tools/bench/run.sh --write target/bench/models >&2
-gcc -std=gnu11 -O2 -Wall -Wextra -Iinclude -o target/bench/stack tools/bench/stack.c target/staticlib/libcapi.a -lpthread
+gcc -std=gnu11 -O2 -Wall -Wextra -Iinclude -o target/bench/stack tools/bench/stack.c crates/capi/out/libcapi.a -lpthread
 exec target/bench/stack examples/two_cells.in target/bench/models/*.bin

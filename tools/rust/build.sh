@@ -9,7 +9,7 @@ path=$(cd "${1:?path of the mefikit source}" && pwd)
 cd "$(dirname "${BASH_SOURCE[0]}")/../.."
 out=$PWD/target/rust
 rustc=${RUSTC:-rustc}
-lib=${LIB:-target/staticlib/libcapi.a}
+lib=${LIB:-crates/capi/out/libcapi.a}
 
 # A source file, if it is the version that this script was written for.
 source_file() { # path below crates/mefikit/src, sha256
@@ -80,7 +80,7 @@ take "$mod" 'fn partially_shared_faces(' |
 [ "$(grep -c 'crate::way::by_nodes\|^fn partially_shared_faces_by(' "$out/hooked.rs")" = 2 ] ||
     { echo "the choice of way was not found" >&2; exit 1; }
 
-if [ -z "${LIB:-}" ]; then rt staticlib capi >&2; fi
+if [ -z "${LIB:-}" ]; then (cd crates/capi && rt lib) >&2; fi
 # shellcheck disable=SC2086
 EXTRACTED=$out "$rustc" --edition 2024 -C opt-level=3 -C codegen-units=1 ${RUSTC_FLAGS:-} --remap-path-prefix "$PWD=." \
     --crate-name compare -o "$out/compare" tools/rust/src/main.rs -C link-arg="$lib"
