@@ -22,10 +22,10 @@ CASES = [
     ("1002", "order 1: node 0, named in a dropped run alone, is welded"),
 ]
 HEAD = """-- Published cases, each with what it shows, computed by the definitions. Written by tools/cases.py; the program replay runs all.
-use mathlib.Core.Path.{_≡_, refl}
+use mathlib.Core.Path.{◌≡◌, refl}
 use mathlib.Core.Bool.{true}
-use mathlib.Core.List.{List, [], _∷_}
-use Rattle·report·proofs.proofs.Cases.{Case, caseOf, agrees, allAgree}
+use mathlib.Core.List.{List, [], ◌∷◌}
+use Rattle.report.proofs.Cases.{Case, case_of, agrees, all_agree}
 
 abbrev pub cases : List Case
 cases =
@@ -47,11 +47,11 @@ def main():
     rows = []
     for case, shows in CASES:
         data = [open(os.path.join(vectors, "case-%s.%s" % (case, e)), "rb").read() for e in ("in", "out", "rec")]
-        rows.append("    -- %s, %s\n    caseOf %d %s\n    %d %s\n    %s" % (
+        rows.append("    -- %s, %s\n    case_of %d %s\n    %d %s\n    %s" % (
             case, shows, len(data[0]), numbers(data[0], 32), len(data[1]), number(data[1]), numbers(data[2], 64)))
     with open(os.path.join(top, "crates/report/proofs/Published.antt"), "w") as out:
         out.write(HEAD + "\n    ∷\n".join(rows) + "\n    ∷ []\n\n")
-        out.write("pub computed : allAgree cases ≡ true\nunfolding agrees\ncomputed = refl\n")
+        out.write("pub computed : all_agree cases ≡ true\nunfolding agrees\ncomputed = refl\n")
 
 
 main()

@@ -55,6 +55,22 @@ expect() {
     total=$((total + differ))
 }
 
+# run PROGRAM: runs it over its data/, and says where what it writes is not its `stdout`
+run() {
+    local file data=()
+    for file in "crates/$1/data"/*; do
+        data+=(--data "${file##*/}=data/${file##*/}")
+    done
+    if ! (cd "crates/$1" && rt try "${data[@]}" >../../wrote 2>../../log); then
+        grep -m 1 error log || cat log
+        return 1
+    fi
+    if ! cmp -s "crates/$1/stdout" wrote; then
+        diff "crates/$1/stdout" wrote | grep -m 1 '^[<>]'
+        return 1
+    fi
+}
+
 readings=0 told=0
 
 # reading NAME FILE OLD NEW 'PROGRAM PATTERN..'..: the wrong text in a file of crates/, and the tests that tell it
@@ -68,7 +84,7 @@ reading() {
     for tests in "$@"; do
         read -ra words <<<"$tests"
         expect "${words[@]}"
-        rt try "${words[0]}" >log 2>&1 || { good=0; grep -m 1 -e '^on standard' -e error log || cat log; }
+        run "${words[0]}" || good=0
     done
     cp right "$file"
     [ "$name" = right ] || [ $total -ge 3 ] || good=0
