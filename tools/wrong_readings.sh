@@ -5,9 +5,9 @@
 # The last line counts the readings that were told; the exit code is 1 if one was not.
 set -euo pipefail
 cd "$(dirname "${BASH_SOURCE[0]}")/.."
-copy=target/wrong
-rm -rf "$copy"
-mkdir -p "$copy"
+top=$PWD
+copy=$(mktemp -d)
+trap 'rm -rf "$copy"' EXIT
 cp crates.txt "$copy/"
 for crate in crates/*; do
     [ -d "$crate/src" ] || continue
@@ -31,7 +31,8 @@ edit() {
     printf '%s\n' "${text%%"$2"*}$3$behind" >"$1"
 }
 
-# expect PROGRAM PATTERN..: writes the program's `stdout`, where tests whose name has one of the patterns differ, and says how many
+# expect PROGRAM PATTERN..: writes the file expected, the program's `stdout` where tests whose name has one of the patterns differ, and
+# says how many
 expect() {
     local line name pattern differ=0 program=$1
     shift
@@ -50,25 +51,17 @@ expect() {
         *' models: '*) line='0 models: 0 agree, by either way; 0 faces sought each way' ;;
         esac
         echo "$line" >&3
-    done <"../../crates/$program/stdout" 3>"crates/$program/stdout"
+    done <"$top/crates/$program/stdout" 3>expected
     printf '%d of %s, ' "$differ" "$program"
     total=$((total + differ))
 }
 
-# run PROGRAM: runs it over its data/, and says where what it writes is not its `stdout`
-run() {
+# try PROGRAM: runs it on its data, unproved; it must write what is expected
+try() {
     local file data=()
-    for file in "crates/$1/data"/*; do
-        data+=(--data "${file##*/}=data/${file##*/}")
-    done
-    if ! (cd "crates/$1" && rt try "${data[@]}" >../../wrote 2>../../log); then
-        grep -m 1 error log || cat log
-        return 1
-    fi
-    if ! cmp -s "crates/$1/stdout" wrote; then
-        diff "crates/$1/stdout" wrote | grep -m 1 '^[<>]'
-        return 1
-    fi
+    for file in "crates/$1/data"/*; do data+=(--data "$(basename "$file")=data/$(basename "$file")"); done
+    (cd "crates/$1" && rt try "${data[@]}") </dev/null >written 2>log || { grep -m 1 error log || cat log; return 1; }
+    cmp -s written expected || { diff expected written | head -n 4; return 1; }
 }
 
 readings=0 told=0
@@ -84,7 +77,7 @@ reading() {
     for tests in "$@"; do
         read -ra words <<<"$tests"
         expect "${words[@]}"
-        run "${words[0]}" || good=0
+        try "${words[0]}" || good=0
     done
     cp right "$file"
     [ "$name" = right ] || [ $total -ge 3 ] || good=0
