@@ -152,7 +152,7 @@ uint32_t lenoshale_report(const uint8_t *findings, size_t findings_len, uint64_t
                           uint64_t *size);
 
 /* The program's whole run: its output from its input, with the program's own limits (LENOSHALE_RUN_..), into the first bytes of out, and
- * its length to size. It takes 191 kB of stack. A file that is refused gives the text `refused R`, and the answer is 0.
+ * its length to size. It takes 189 kB of stack. A file that is refused gives the text `refused R`, and the answer is 0.
  * Refuses with 4 if out is under 65,600 bytes. */
 uint32_t lenoshale_run(const uint8_t *input, size_t input_len, uint8_t *out, size_t out_len, uint64_t *size);
 

@@ -30,48 +30,52 @@ returns-then-t-ne0 c =
 
 pub work_needed-need-requires : goal.work_needed-need-requires
 work_needed-need-requires c =
+    let accepted : c.accept-t.result.refusal ≡ 0 = omega arith in
     let a = c.args in
     let m : Model = model_of a.coords.now a.kinds.now a.ends.now a.words.now a.tol a.checks.0 0 in
     let t = c.accept-t.ensures in
-    let k = accepts m (sym t.refusal ∙ c.if-t-ne0.false) in
+    let k = accepts m (sym t.refusal ∙ accepted) in
     let cells = ltb-false cell_limit (length a.kinds.now) k.cells in
     let words = ltb-false word_limit (length a.words.now) k.words in
     (t.small, t.few, omega (arith, cells), omega (arith, few_nodes m k), omega (arith, words))
 
 pub returns-then-work-need : goal.returns-then-work-need
 returns-then-work-need c =
+    let accepted : c.accept-t.result.refusal ≡ 0 = omega arith in
     let a = c.args in
     let m : Model = model_of a.coords.now a.kinds.now a.ends.now a.words.now a.tol a.checks.0 a.cap in
     let uncapped : Model = model_of a.coords.now a.kinds.now a.ends.now a.words.now a.tol a.checks.0 0 in
     let t = c.accept-t in
     let e : t.result.refusal ≡ model_refusal m = t.ensures.refusal ∙ cap_refusal a.coords.now a.kinds.now a.ends.now a.words.now a.tol a.checks.0 a.cap in
-    let need : c.work_needed-need.result ≡ work_needed m = c.work_needed-need.ensures ∙ work_is_lem uncapped t.result t.ensures c.if-t-ne0.false
+    let need : c.work_needed-need.result ≡ work_needed m = c.work_needed-need.ensures ∙ work_is_lem uncapped t.result t.ensures accepted
     ∙ cap_work a.coords.now a.kinds.now a.ends.now a.words.now a.tol a.checks.0 a.cap in
-    let ok = sym e ∙ c.if-t-ne0.false in
+    let ok = sym e ∙ accepted in
     let r = c.refused-then-work-need in
     let less = row_work m a.work.now ok (omega (arith, need, c.if-work-need.true)) in
     refused_by a.choice m a.findings.now a.work.now 11 r.result less (λ y. omega arith) r.ensures.0 r.ensures.1 r.ensures.2
 
 pub find-total-requires : goal.find-total-requires
 find-total-requires c =
+    let accepted : c.accept-t.result.refusal ≡ 0 = omega arith in
     let a = c.args in
     let uncapped : Model = model_of a.coords.now a.kinds.now a.ends.now a.words.now a.tol a.checks.0 0 in
     let t = c.accept-t.ensures in
     let n = c.work_needed-need.result in
-    let need = c.work_needed-need.ensures ∙ work_is_lem uncapped c.accept-t.result t c.if-t-ne0.false in
+    let need = c.work_needed-need.ensures ∙ work_is_lem uncapped c.accept-t.result t accepted in
     let enough : work_needed uncapped ≤ length (take (n - 0) a.work.now) = omega (arith, need, length-take (n - 0) a.work.now, c.if-work-need.false) in
-    (refl, ((sym t.refusal ∙ c.if-t-ne0.false, t, enough), omega (arith, c.lesser-room.ensures)))
+    (refl, ((sym t.refusal ∙ accepted, t, enough), omega (arith, c.lesser-room.ensures)))
 
 pub returns : goal.returns
 returns c =
+    let accepted : c.accept-t.result.refusal ≡ 0 = omega arith in
     let a = c.args in
     let m : Model = model_of a.coords.now a.kinds.now a.ends.now a.words.now a.tol a.checks.0 a.cap in
     let uncapped : Model = model_of a.coords.now a.kinds.now a.ends.now a.words.now a.tol a.checks.0 0 in
     let t = c.accept-t in
     let e : t.result.refusal ≡ model_refusal m = t.ensures.refusal ∙ cap_refusal a.coords.now a.kinds.now a.ends.now a.words.now a.tol a.checks.0 a.cap in
-    let need : c.work_needed-need.result ≡ work_needed m = c.work_needed-need.ensures ∙ work_is_lem uncapped t.result t.ensures c.if-t-ne0.false
+    let need : c.work_needed-need.result ≡ work_needed m = c.work_needed-need.ensures ∙ work_is_lem uncapped t.result t.ensures accepted
     ∙ cap_work a.coords.now a.kinds.now a.ends.now a.words.now a.tol a.checks.0 a.cap in
-    let ok = sym e ∙ c.if-t-ne0.false in
+    let ok = sym e ∙ accepted in
     let y = c.find-total in
     let n = c.work_needed-need.result in
     let room = c.lesser-room in

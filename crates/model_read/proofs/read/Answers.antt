@@ -46,21 +46,23 @@ room_off-requires c = tt
 
 pub returns-then-room_off : goal.returns-then-room_off
 returns-then-room_off c =
+    let accepted : c.judge_all-t.result.refusal ≡ 0 = omega arith in
     let each_byte : All Byte c.args.bytes.now = all_known Byte 0 c.args.bytes.now (λ i. (c.shared_slice_known-1.given i).fits) in
     let right_length : length_off (length c.args.bytes.now) ≡ false = sym c.length_off.ensures ∙ c.if-length_off.false in
     let a = c.args in
     let j = c.judge_all-t in
     reading_refused a.bytes.now a.coords.now a.kinds.now a.ends.now a.words.now each_byte 4
-    (refused_room a.bytes.now a.coords.now a.kinds.now a.ends.now a.words.now j.result j.ensures c.if-no-ne0.false right_length (sym c.room_off.ensures ∙ c.if-room_off.true))
+    (refused_room a.bytes.now a.coords.now a.kinds.now a.ends.now a.words.now j.result j.ensures accepted right_length (sym c.room_off.ensures ∙ c.if-room_off.true))
     (λ z. omega arith)
 
 pub fill_all-requires : goal.fill_all-requires
 fill_all-requires c =
+    let accepted : c.judge_all-t.result.refusal ≡ 0 = omega arith in
     let right_length : length_off (length c.args.bytes.now) ≡ false = sym c.length_off.ensures ∙ c.if-length_off.false in
     let room : short c.judge_all-t.result.place (length c.args.coords.now) (length c.args.kinds.now) (length c.args.ends.now) (length c.args.words.now) ≡ false = sym c.room_off.ensures ∙ c.if-room_off.false in
     let fits : Fitting c.args.bytes.now (length c.args.coords.now) (length c.args.kinds.now) (length c.args.ends.now) (length c.args.words.now) = let a = c.args in
     let j = c.judge_all-t in
-    fitting a.bytes.now a.coords.now a.kinds.now a.ends.now a.words.now j.result j.ensures c.if-no-ne0.false right_length room in
+    fitting a.bytes.now a.coords.now a.kinds.now a.ends.now a.words.now j.result j.ensures accepted right_length room in
     (fits, c.leading_nodes-nodes.ensures)
 
 pub overflow_sub-last : goal.overflow_sub-last
@@ -89,18 +91,19 @@ shape_of-words c = c.fill_all.auto.words
 
 pub returns : goal.returns
 returns c =
+    let accepted : c.judge_all-t.result.refusal ≡ 0 = omega arith in
     let each_byte : All Byte c.args.bytes.now = all_known Byte 0 c.args.bytes.now (λ i. (c.shared_slice_known-1.given i).fits) in
     let right_length : length_off (length c.args.bytes.now) ≡ false = sym c.length_off.ensures ∙ c.if-length_off.false in
     let whole : Whole c.args.bytes.now = length_whole c.args.bytes.now right_length in
     let room : short c.judge_all-t.result.place (length c.args.coords.now) (length c.args.kinds.now) (length c.args.ends.now) (length c.args.words.now) ≡ false = sym c.room_off.ensures ∙ c.if-room_off.false in
     let fits : Fitting c.args.bytes.now (length c.args.coords.now) (length c.args.kinds.now) (length c.args.ends.now) (length c.args.words.now) = let a = c.args in
     let j = c.judge_all-t in
-    fitting a.bytes.now a.coords.now a.kinds.now a.ends.now a.words.now j.result j.ensures c.if-no-ne0.false right_length room in
+    fitting a.bytes.now a.coords.now a.kinds.now a.ends.now a.words.now j.result j.ensures accepted right_length room in
     let a = c.args in
     let s = a.bytes.now in
     let w = whole in
     let j = c.judge_all-t in
-    let z = c.if-no-ne0.false in
+    let z : c.judge_all-t.result.refusal ≡ 0 = omega arith in
     let e = c.fill_all in
     reading_done s a.coords.now a.kinds.now a.ends.now a.words.now each_byte e.new.coords e.new.kinds e.new.ends e.new.words c.found_in.result
     (c.found_in.ensures ∙ found_is_lem s _ j.result.place (last_lent s w.some w.whole) (j.ensures.coords z) (j.ensures.cells z) (j.ensures.words z))
