@@ -1,6 +1,6 @@
 #!/usr/bin/env python3
 """port_names.py [FOLDER]: respells the repository's own definitions and lemmas, by port_names.tsv beside it (old, a tab, new), once, after
-/opt/rattle/port/port.py has turned the rest. Whole names turn: in .antt files, in clauses, `ghost use` items and comments of .rt files, in the
+the kit's port/port.py has turned the rest. Whole names turn: in .antt files, in clauses, `ghost use` items and comments of .rt files, in the
 texts of edits, and in code spans and fenced blocks of .md files. In a comment or a page a name with a dash, or a plain word, turns only in a code span.
 What stays: strings, names of modules (behind a dot that another name follows), inputs and outputs, and Rust's own names, of which none has an old spelling."""
 import os
