@@ -1,14 +1,13 @@
 -- Texts stored one behind the other, and the digits of a number.
-use Prim.Native.Nat.{ℕ, zero, suc, ◌+◌, ◌-◌, ◌/◌, ◌%◌, ◌≤◌, ◌<◌}
+use Prim.Native.Nat.{ℕ, zero, suc, ◌+◌, ◌-◌, ◌/◌, ◌%◌, ◌≤◌}
 use mathlib.Core.Path.{◌≡◌, refl, sym, ap, ◌∙◌, subst}
 use mathlib.Core.Bool.{Bool, true, false, cond}
 use mathlib.Core.List.{List, [], ◌∷◌, ◌++◌, append_assoc}
-use native.Mathlib.Nat.{add-zero}
 use native.Mathlib.Omega.{arith}
 use lib.Dec.{ltb}
 use lib.ListN.{set, length-append}
 use lib.Seq.{sets}
-use borrow.Author.Tests.{lt-ltb, le-ltb}
+use borrow.Author.Tests.{le-ltb}
 use Rattle.laws.proofs.Stores.{sets_append}
 use Rattle.report.specs.Text.{digits_to}
 use Rattle.report_text.specs.Stored.{Stored}
@@ -31,15 +30,6 @@ in_front (suc k) n text = go (in_front k (n / 10)) (ltb n 10)
         ih ((48 + n % 10) ∷ text)
         ∙ sym (append_assoc (digits_to k (n / 10) []) ((48 + n % 10) ∷ []) text)
         ∙ ap (λ (l : List ℕ). l ++ text) (sym (ih ((48 + n % 10) ∷ [])))
-
--- no digits where none are asked for
-pub no_digit : (l : List ℕ) (at k n : ℕ) → k ≡ 0 → Stored l at (digits_to k n []) l at
-no_digit l at k n e = rw e (refl, sym (add-zero at))
-
--- one digit where the number is below ten
-pub one_digit : (l : List ℕ) (at k n d : ℕ) → (k ≡ 0 → ⊥) → n < 10 → d ≡ 48 + n → Stored l at (digits_to k n []) (set l at d) (at + 1)
-one_digit l at zero n d h lt e = absurd (h refl)
-one_digit l at (suc k) n d h lt e = rw (lt-ltb n 10 lt, e) (refl, refl)
 
 -- the digits in front of the last one, and the last one
 pub more_digits : (l m : List ℕ) (at p k n d : ℕ) → (k ≡ 0 → ⊥) → 10 ≤ n → d ≡ 48 + n % 10 → Stored l at (digits_to (k - 1) (n / 10) []) m p → Stored l at (digits_to k n []) (set m p d) (p + 1)
