@@ -1,0 +1,2 @@
+-- Laws of what an operation answers.
+pub mod Told

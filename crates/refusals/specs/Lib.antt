@@ -1,0 +1,2 @@
+-- The reasons of refusals as an enum.
+pub mod Told
