@@ -10,7 +10,8 @@ use lib.Seq.{get_or-drop, drop-drop, length-take-le}
 use Rattle.mesh.specs.Model.{Raw, cells_from}
 use Rattle.mesh.specs.Acceptance.{ends_off}
 use Rattle.mesh.specs.Steps.{cell_with}
-use Rattle.mesh.proofs.CellTallies.{ends_most, ends_next, left, left_next}
+use Rattle.mesh.proofs.Ends.{ends_most}
+use Rattle.mesh.proofs.CellTallies.{ends_next, left, left_next}
 use Rattle.findings.specs.Compared.{none}
 use Rattle.all_cells.specs.Cells.{words_of_cell}
 

@@ -10,7 +10,7 @@ use Rattle.mesh.specs.Model.{Model}
 use Rattle.mesh.specs.Acceptance.{model_refusal}
 use Rattle.mesh.specs.Steps.{ModelCounted}
 use Rattle.mesh.specs.declared.CellTally.{CellTally}
-use Rattle.mesh.proofs.Accepted.{work_is_lem}
+use Rattle.mesh.proofs.ModelTable.{work_is_lem}
 use Rattle.findings.specs.Check.{check_told, Checking}
 use Rattle.findings.specs.declared.CheckAnswer.{CheckAnswer}
 use Rattle.findings.specs.declared.CheckAnswer.TheVariants.{Refused, Report}

@@ -17,7 +17,7 @@ use Rattle.mesh.specs.Rings.{separator, at, tet_rings, hex_rings, wedge_rings, o
 use Rattle.mesh.specs.Acceptance.{count_wrong}
 use Rattle.mesh.specs.Steps.{ring_total, too_long, cell_with, WellCell, WellCells}
 use Rattle.mesh.proofs.ByKind.{tet_is, hex_is, wedge_is, phed_is}
-use Rattle.mesh.proofs.Cells.{the_fourth}
+use Rattle.mesh.proofs.CellKinds.{the_fourth}
 
 -- what holds of the rings of each kind holds of a cell's rings
 by_kind : (P : List (List ℕ) → Type 0) (k : ℕ) (ws : List ℕ) → WellCell (cell_with k ws) → P (at ws tet_rings) → P (at ws hex_rings) → P (at ws wedge_rings) → (k ≡ 4 → P (phed_rings ws)) → P (rings_of (cell_with k ws))

@@ -16,7 +16,7 @@ use Rattle.mesh.specs.Acceptance.{model_refusal, faces_in}
 use Rattle.mesh.specs.Lookup.{no_face, face_at, ring_start}
 use Rattle.mesh.specs.Steps.{ring_total}
 use Rattle.mesh.proofs.CellTallies.{total_append}
-use Rattle.mesh.proofs.Accepted.{rings_in_lem, ring_words_lem, face_count_lem}
+use Rattle.mesh.proofs.ModelTable.{rings_in_lem, ring_words_lem, face_count_lem}
 use Rattle.mesh.proofs.Accepts.{accepts}
 use Rattle.mesh.proofs.NodeNumbers.{well_cells}
 use Rattle.faces.specs.Spans.{Sound, rings_in}

@@ -9,7 +9,8 @@ use lib.Seq.{length-take-le}
 use Rattle.mesh.specs.Model.{Raw, cells_from}
 use Rattle.mesh.specs.Acceptance.{ends_off, kind_off}
 use Rattle.mesh.specs.Steps.{cell_with, WellCell, WellCells}
-use Rattle.mesh.proofs.CellTallies.{ends_most, ends_next, left, left_next}
+use Rattle.mesh.proofs.Ends.{ends_most}
+use Rattle.mesh.proofs.CellTallies.{ends_next, left, left_next}
 use Rattle.faces.specs.Spans.{Sound}
 
 -- the cells from number i on, whose words start at `from`, are in order and right

@@ -14,7 +14,7 @@ use Rattle.laws.proofs.Tests.{eqb_self, split}
 use Rattle.laws.proofs.ListLaws.{each_append}
 use Rattle.mesh.specs.Model.{Raw, contains, TOPOLOGY}
 use Rattle.mesh.specs.Rings.{Cell, Face, faces_of, faces, number_from, numbered}
-use Rattle.mesh.proofs.Accepted.{rings_from}
+use Rattle.mesh.proofs.ModelTable.{rings_from}
 use Rattle.findings.specs.Findings.{Rules, Finding, bowtie, overfull, partly, repeated, over_of, over_at, partly_of, pair_at, kind1, kind2, kind3, kind4, full}
 use Rattle.findings.specs.Compared.{none, shares, both, names_pair}
 use Rattle.findings.proofs.Laws.{occupied}

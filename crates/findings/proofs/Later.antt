@@ -11,7 +11,7 @@ use Rattle.laws.specs.Lists.{only_if, any, each, walk, keep, sort, eql}
 use Rattle.laws.proofs.Tests.{tested, eqb_self}
 use Rattle.laws.proofs.ListLaws.{each_append, walk_append, any_append, any-map, keep_append, eql_self}
 use Rattle.mesh.specs.Rings.{Cell, Face, faces_from, faces_of, faces, same_key}
-use Rattle.mesh.proofs.Accepted.{rings_from}
+use Rattle.mesh.proofs.ModelTable.{rings_from}
 use Rattle.findings.specs.Findings.{Rules, Finding, bowtie, overfull, partly, repeated, over_of, over_at, partly_of, pair_at, kind1, kind2, kind3, kind4, full}
 use Rattle.findings.proofs.Laws.{only_if_nil, keep_nothing, Every, every_map}
 use Rattle.findings.proofs.ByKind.{every_pair}

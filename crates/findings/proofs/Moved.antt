@@ -20,7 +20,7 @@ use Rattle.mesh.specs.Acceptance.{ends_off, faces_in, work_needed, model_table}
 use Rattle.findings.specs.Compared.{none, moved, ends_from, with_cells, reordered}
 use Rattle.findings.specs.Demand3.{Reordering}
 use Rattle.findings.proofs.Laws.{any_perm, length_snoc}
-use Rattle.mesh.proofs.Accepted.{face_count_lem, ring_words_lem}
+use Rattle.mesh.proofs.ModelTable.{face_count_lem, ring_words_lem}
 use Rattle.mesh.proofs.Accepts.{accepted_clear, cell_wrong, Accepts, accepted}
 use Rattle.mesh.proofs.CellWords.{cells_count, cells_words}
 use Rattle.laws.proofs.Tables.{clear_append}

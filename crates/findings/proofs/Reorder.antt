@@ -15,7 +15,7 @@ use Rattle.laws.proofs.Sorting.{by_number, insert_swap}
 use Rattle.laws.proofs.Permutations.{perm_ind, perm_eq, perm_append, perm_left_comm, perm_each, perm_map, pairs, perm_pairs, perm_length, sort_perm}
 use Rattle.mesh.specs.Model.{Raw, contains, TOPOLOGY, BUTTERFLY}
 use Rattle.mesh.specs.Rings.{Cell, Face, faces_from, faces_of, faces, number_from, numbered, same_key}
-use Rattle.mesh.proofs.Accepted.{rings_from}
+use Rattle.mesh.proofs.ModelTable.{rings_from}
 use Rattle.findings.specs.Findings.{Rules, bowtie, repeated, meets, over_of, over_at, partly_of, pair_at, kind1, kind2, kind3, kind4, full}
 use Rattle.findings.specs.Compared.{none, shares, Compared, bowtie_c, overfull_c, partly_c, repeated_c, compared, moved}
 use Rattle.findings.proofs.Laws.{occupied, length_snoc}

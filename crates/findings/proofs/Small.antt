@@ -19,7 +19,7 @@ use Rattle.findings.proofs.Laws.{Every, every_imp, every_parts, every_keep, ever
 use Rattle.mesh.proofs.Accepts.{cell_wrong, Accepts}
 use Rattle.laws.proofs.Tests.{or_none}
 use Rattle.mesh.proofs.CellWords.{cells_count, cells_words, named_low, right_words}
-use Rattle.mesh.proofs.Accepted.{rings_numbered, face_count_lem}
+use Rattle.mesh.proofs.ModelTable.{rings_numbered, face_count_lem}
 
 -- ---- how many faces
 

@@ -16,7 +16,7 @@ use Rattle.laws.proofs.Tables.{reason, Numbered, numbered_append, clear_refusal,
 use Rattle.geometry.specs.Coordinates.{node_count, count_off, tolerance_off, coordinates_off}
 use Rattle.mesh.specs.Model.{Model, Raw, PHED, ascending, cells_of}
 use Rattle.mesh.specs.Acceptance.{ends_off, shape_off, kind_off, count_wrong, node_off, cell_table, cells_table, mesh_table, model_table, model_refusal}
-use Rattle.mesh.proofs.Accepted.{nines}
+use Rattle.mesh.proofs.ModelTable.{nines}
 
 -- every row of a model has a number
 pub numbers_mesh : (m : Model) → Numbered (mesh_table m)

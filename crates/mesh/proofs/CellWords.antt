@@ -18,7 +18,7 @@ use Rattle.geometry.specs.Coordinates.{node_count}
 use Rattle.mesh.specs.Model.{Model, Raw, PHED, cells_from, cells_of}
 use Rattle.mesh.specs.Rings.{separator, nodes_in}
 use Rattle.mesh.specs.Acceptance.{ends_off, count_wrong, node_off}
-use Rattle.mesh.proofs.CellTallies.{ends_most}
+use Rattle.mesh.proofs.Ends.{ends_most}
 use Rattle.mesh.proofs.Accepts.{cell_wrong, Accepts}
 
 -- ---- the words are those of the cells
@@ -36,8 +36,14 @@ round_words at (k ∷ ks) (e ∷ es) ws l h =
     ap (λ (r : List ℕ). take (e - at) ws ++ r) (round_words e ks es (drop (e - at) ws) (omega arith) (ap (ends_off e es) (sym n) ∙ p.1))
     ∙ take-append-drop (e - at) ws
 
+-- from the first word on
+pub all_words : (ks es ws : List ℕ) → length ks ≡ length es → ends_off 0 es (length ws) ≡ false → each (λ c. c.words) (cells_from 0 ks es ws) ≡ ws
+all_words ks es ws l h =
+    let n : length ws ≡ 0 + length ws = omega arith in
+    round_words 0 ks es ws l (ap (ends_off 0 es) (sym n) ∙ h)
+
 -- there are as many cells as kinds
-count_cells : (at : ℕ) (ks es ws : List ℕ) → length ks ≡ length es → length (cells_from at ks es ws) ≡ length ks
+pub count_cells : (at : ℕ) (ks es ws : List ℕ) → length ks ≡ length es → length (cells_from at ks es ws) ≡ length ks
 count_cells at [] es ws l = refl
 count_cells at (k ∷ ks) [] ws l = absurd (omega arith)
 count_cells at (k ∷ ks) (e ∷ es) ws l = ap suc (count_cells e ks es (drop (e - at) ws) (omega arith))
@@ -50,9 +56,7 @@ cells_count m h = count_cells 0 m.kinds m.ends m.words h.paired
 -- and its cells' words are its words
 pub cells_words : (m : Model) → Accepts m → each (λ c. c.words) (cells_of m) ≡ m.words
 unfolding cells_of
-cells_words m h =
-    let n : length m.words ≡ 0 + length m.words = omega arith in
-    round_words 0 m.kinds m.ends m.words h.paired (ap (ends_off 0 m.ends) (sym n) ∙ h.ends)
+cells_words m h = all_words m.kinds m.ends m.words h.paired h.ends
 
 -- ---- words that are nodes
 

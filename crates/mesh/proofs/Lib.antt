@@ -2,10 +2,13 @@
 pub mod Runs
 pub mod Ends
 pub mod RunTallies
-pub mod Cells
+pub mod CellKinds
 pub mod CellTallies
-pub mod Accepted
+pub mod ModelTable
 pub mod Accepts
 pub mod ByKind
 pub mod NodeNumbers
 pub mod CellWords
+pub mod WellCells
+pub mod KindNumbers
+pub mod Counts

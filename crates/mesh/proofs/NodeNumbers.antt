@@ -19,7 +19,7 @@ use Rattle.mesh.specs.Acceptance.{count_wrong, node_off}
 use Rattle.mesh.specs.Steps.{WellCell, WellCells}
 use Rattle.mesh.proofs.Accepts.{cell_wrong}
 use Rattle.mesh.proofs.ByKind.{tet_is, hex_is, wedge_is, phed_is}
-use Rattle.mesh.proofs.Cells.{the_fourth}
+use Rattle.mesh.proofs.CellKinds.{the_fourth}
 
 -- ---- words that are nodes
 

@@ -1,88 +1,104 @@
--- The pass over a PHED's runs: what is counted so far, and what is left.
-use Prim.Native.Nat.{ℕ, suc, ◌+◌, ◌-◌, ◌≤◌, ◌<◌}
-use mathlib.Core.Path.{◌≡◌, sym, ap, ◌∙◌}
-use mathlib.Core.Bool.{Bool, true, false, cond, ◌||◌, or_assoc, or-false}
-use mathlib.Core.List.{List, [], ◌∷◌, ◌++◌}
+-- The pass over a PHED's rings: what is counted so far, and what is left.
+use Prim.Native.Nat.{ℕ, suc, ◌+◌, ◌*◌, ◌≤◌}
+use mathlib.Core.Path.{◌≡◌, refl, sym, ap, ◌∙◌}
+use mathlib.Core.Logic.{◌⊎◌, inl, inr}
+use mathlib.Core.Bool.{Bool, true, false, ◌||◌, or_assoc, or-false}
+use mathlib.Core.List.{List, [], ◌∷◌}
 use native.Mathlib.Omega.{arith}
-use lib.Dec.{leb, ltb}
-use lib.ListN.{length, take, drop, length-append, drop_of_length-le}
-use lib.Seq.{drop-drop, length-take-le}
+use borrow.Author.Tests.{leb-true, leb-false, le-ltb}
+use lib.Dec.{leb, ltb, eqb}
+use lib.ListN.{length, length-append}
 use Rattle.laws.specs.Limits.{ring_limit}
-use Rattle.laws.specs.Lists.{only_if, any}
-use Rattle.mesh.specs.Rings.{runs, phed_rings}
-use Rattle.mesh.specs.Steps.{lead, ring_total, too_long, RunsCounted}
+use Rattle.laws.specs.Lists.{any, keep, each}
+use Rattle.laws.proofs.Tests.{tested}
+use Rattle.mesh.specs.Rings.{separator, onto, runs, phed_rings}
+use Rattle.mesh.specs.Steps.{ring_total, too_long, RunsCounted}
 use Rattle.mesh.specs.declared.RunTally.{RunTally}
-use Rattle.mesh.proofs.Runs.{lead_le, long_next, phed_next}
 
--- what is counted before place i, with what is left from there, is all
-pub record Running (ws : List ℕ) (t : RunTally) (i : ℕ) : Type 0 where
-  pub long : (t.long || any too_long (runs (drop i ws))) ≡ any too_long (runs ws)
-  pub faces : t.faces + length (phed_rings (drop i ws)) ≡ length (phed_rings ws)
-  pub words : t.words + ring_total (phed_rings (drop i ws)) ≡ ring_total (phed_rings ws)
-  pub few : t.faces ≤ i
-  pub small : t.words ≤ i
-  pub within : i ≤ length ws + 1
+-- ---- rings are runs
 
--- the same after a run of so many words
+-- a run that is too long is a ring
+pub long_rings : (rs : List (List ℕ)) → any too_long (keep (λ r. leb 3 (length r)) rs) ≡ any too_long rs
+long_rings [] = refl
+long_rings (r ∷ rs) = go (tested (leb 3 (length r))) (long_rings rs)
+  where
+    go : (leb 3 (length r) ≡ true) ⊎ (leb 3 (length r) ≡ false) → any too_long (keep (λ r. leb 3 (length r)) rs) ≡ any too_long rs
+        → any too_long (keep (λ r. leb 3 (length r)) (r ∷ rs)) ≡ any too_long (r ∷ rs)
+    go (inl e) h = rw e (ap (λ (b : Bool). too_long r || b) h)
+    go (inr e) h = rw (e, le-ltb ring_limit (length r) (omega (arith, leb-false 3 (length r) e))) h
+
+-- rings have three words or more, and no more than there are
+few_rings : (rs : List (List ℕ)) → 3 * length (keep (λ r. leb 3 (length r)) rs) ≤ ring_total (keep (λ r. leb 3 (length r)) rs)
+few_rings [] = omega arith
+few_rings (r ∷ rs) = go (tested (leb 3 (length r))) (few_rings rs)
+  where
+    go : (leb 3 (length r) ≡ true) ⊎ (leb 3 (length r) ≡ false) → 3 * length (keep (λ r. leb 3 (length r)) rs) ≤ ring_total (keep (λ r. leb 3 (length r)) rs)
+        → 3 * length (keep (λ r. leb 3 (length r)) (r ∷ rs)) ≤ ring_total (keep (λ r. leb 3 (length r)) (r ∷ rs))
+    go (inl e) h = rw e (omega (arith, leb-true 3 (length r) e, length-append r (each (λ (x : List ℕ). x) (keep (λ x. leb 3 (length x)) rs))))
+    go (inr e) h = rw e h
+
+small_rings : (rs : List (List ℕ)) → ring_total (keep (λ r. leb 3 (length r)) rs) ≤ ring_total rs
+small_rings [] = omega arith
+small_rings (r ∷ rs) = go (tested (leb 3 (length r))) (small_rings rs)
+  where
+    go : (leb 3 (length r) ≡ true) ⊎ (leb 3 (length r) ≡ false) → ring_total (keep (λ r. leb 3 (length r)) rs) ≤ ring_total rs → ring_total (keep (λ r. leb 3 (length r)) (r ∷ rs)) ≤ ring_total (r ∷ rs)
+    go (inl e) h = rw e (omega (arith, length-append r (each (λ (x : List ℕ). x) (keep (λ x. leb 3 (length x)) rs)), length-append r (each (λ (x : List ℕ). x) rs)))
+    go (inr e) h = rw e (omega (arith, length-append r (each (λ (x : List ℕ). x) rs)))
+
+onto_total : (w : ℕ) (rs : List (List ℕ)) → ring_total (onto w rs) ≡ suc (ring_total rs)
+onto_total w [] = refl
+onto_total w (r ∷ rs) = refl
+
+runs_total : (ws : List ℕ) → ring_total (runs ws) ≤ length ws
+runs_total [] = omega arith
+runs_total (w ∷ ws) = go (tested (eqb w separator)) (runs_total ws)
+  where
+    go : (eqb w separator ≡ true) ⊎ (eqb w separator ≡ false) → ring_total (runs ws) ≤ length ws → ring_total (runs (w ∷ ws)) ≤ suc (length ws)
+    go (inl e) h = rw e (omega arith)
+    go (inr e) h = rw e (omega (arith, onto_total w (runs ws)))
+
+-- a PHED has no more faces and ring words than words
+pub phed_few : (ws : List ℕ) → (length (phed_rings ws) ≤ length ws) × (ring_total (phed_rings ws) ≤ length ws)
+phed_few ws = (omega (arith, few_rings (runs ws), small_rings (runs ws), runs_total ws), omega (arith, small_rings (runs ws), runs_total ws))
+
+-- ---- the pass
+
+-- what is counted, with the rings that are left, is all
+pub record Running (ws : List ℕ) (t : RunTally) (rest : List (List ℕ)) : Type 0 where
+  pub long : (t.long || any too_long rest) ≡ any too_long (phed_rings ws)
+  pub faces : t.faces + length rest ≡ length (phed_rings ws)
+  pub words : t.words + ring_total rest ≡ ring_total (phed_rings ws)
+
+-- the same after a ring of so many words
 pub record Noted (t u : RunTally) (len : ℕ) : Type 0 where
   pub long : u.long ≡ (t.long || ltb ring_limit len)
-  pub faces : u.faces ≡ t.faces + cond (leb 3 len) 1 0
-  pub words : u.words ≡ t.words + cond (leb 3 len) len 0
+  pub faces : u.faces ≡ t.faces + 1
+  pub words : u.words ≡ t.words + len
 
--- the faces and words of a list of words: its first run's, and those behind it
-pub phed_count : (ws : List ℕ) → length (phed_rings ws) ≡ cond (leb 3 (lead ws)) 1 0 + length (phed_rings (drop (suc (lead ws)) ws))
-phed_count ws = ap length (phed_next ws) ∙ go (leb 3 (lead ws))
-  where
-    go : (b : Bool) → length (only_if b (take (lead ws) ws ∷ []) ++ phed_rings (drop (suc (lead ws)) ws)) ≡ cond b 1 0 + length (phed_rings (drop (suc (lead ws)) ws))
-    go true = omega arith
-    go false = omega arith
+-- no ring is counted yet
+pub running_start : (ws : List ℕ) (t : RunTally) (rest : List (List ℕ)) → rest ≡ phed_rings ws → t.long ≡ false → t.faces ≡ 0 → t.words ≡ 0 → Running ws t rest
+running_start ws t rest is a b c = record { long = rw a (ap (any too_long) is); faces = omega (arith, b, ap length is); words = omega (arith, c, ap ring_total is) }
 
-pub phed_words : (ws : List ℕ) → ring_total (phed_rings ws) ≡ cond (leb 3 (lead ws)) (lead ws) 0 + ring_total (phed_rings (drop (suc (lead ws)) ws))
-phed_words ws = ap ring_total (phed_next ws) ∙ go (leb 3 (lead ws))
-  where
-    go : (b : Bool) → ring_total (only_if b (take (lead ws) ws ∷ []) ++ phed_rings (drop (suc (lead ws)) ws)) ≡ cond b (lead ws) 0 + ring_total (phed_rings (drop (suc (lead ws)) ws))
-    go true = simp length-append (omega (arith, length-take-le (lead ws) ws (lead_le ws)))
-    go false = omega arith
+-- one ring more
+pub running_next : (ws : List ℕ) (t u : RunTally) (r : List ℕ) (rest later : List (List ℕ)) → rest ≡ r ∷ later → Running ws t rest → Noted t u (length r) → Running ws u later
+running_next ws t u r rest later is p n = record {
+  long =
+      ap (λ (x : Bool). x || any too_long later) n.long
+      ∙ or_assoc t.long (ltb ring_limit (length r)) (any too_long later)
+      ∙ ap (λ (l : List (List ℕ)). t.long || any too_long l) (sym is)
+      ∙ p.long;
+  faces = omega (arith, n.faces, p.faces, ap length is);
+  words = omega (arith, n.words, p.words, ap ring_total is, length-append r (each (λ (x : List ℕ). x) later));
+}
 
-cond_le : (b : Bool) (n m : ℕ) → n ≤ m → cond b n 0 ≤ m
-cond_le true n m h = h
-cond_le false n m h = omega arith
-
--- no run is counted yet
-pub running_start : (ws : List ℕ) (t : RunTally) → t.long ≡ false → t.faces ≡ 0 → t.words ≡ 0 → Running ws t 0
-running_start ws t a b c = record { long = rw a; faces = rw b (omega arith); words = rw c (omega arith); few = omega arith; small = omega arith; within = omega arith }
-
--- one run more
-pub running_next : (ws : List ℕ) (t u : RunTally) (i e : ℕ) → Running ws t i → e ≡ i + lead (drop i ws) → e ≤ length ws → i < length ws → Noted t u (e - i) → Running ws u (e + 1)
-running_next ws t u i e r p h l n =
-    let k = lead (drop i ws) in
-    let q : e - i ≡ k = omega arith in
-    let m : i + suc k ≡ e + 1 = omega arith in
-    let d : drop (suc k) (drop i ws) ≡ drop (e + 1) ws = drop-drop (suc k) i ws ∙ ap (λ (j : ℕ). drop j ws) m in
-    let a = long_next (drop i ws) in
-    let b = phed_count (drop i ws) in
-    let c = phed_words (drop i ws) in
+-- no ring is left
+pub running_end : (ws : List ℕ) (t : RunTally) (rest : List (List ℕ)) → Running ws t rest → rest ≡ [] → RunsCounted ws t
+running_end ws t rest p is =
+    let h = phed_few ws in
     record {
-      long =
-          ap (λ (x : Bool). x || any too_long (runs (drop (e + 1) ws))) (n.long ∙ ap (λ (j : ℕ). t.long || ltb ring_limit j) q)
-          ∙ or_assoc t.long (ltb ring_limit k) (any too_long (runs (drop (e + 1) ws)))
-          ∙ ap (λ (x : Bool). t.long || x) (sym (a ∙ ap (λ (v : List ℕ). ltb ring_limit k || any too_long (runs v)) d))
-          ∙ r.long;
-      faces = omega (arith, n.faces ∙ ap (λ (j : ℕ). t.faces + cond (leb 3 j) 1 0) q, b ∙ ap (λ (v : List ℕ). cond (leb 3 k) 1 0 + length (phed_rings v)) d, r.faces);
-      words = omega (arith, n.words ∙ ap (λ (j : ℕ). t.words + cond (leb 3 j) j 0) q, c ∙ ap (λ (v : List ℕ). cond (leb 3 k) k 0 + ring_total (phed_rings v)) d, r.words);
-      few = omega (arith, n.faces, r.few, cond_le (leb 3 (e - i)) 1 1 (omega arith));
-      small = omega (arith, n.words, r.small, cond_le (leb 3 (e - i)) (e - i) (e - i) (omega arith));
-      within = omega arith;
-    }
-
--- no run is left
-pub running_end : (ws : List ℕ) (t : RunTally) (i : ℕ) → Running ws t i → length ws ≤ i → RunsCounted ws t
-running_end ws t i r h =
-    let d : drop i ws ≡ [] = drop_of_length-le ws h in
-    record {
-      long = sym (or-false t.long) ∙ ap (λ (v : List ℕ). t.long || any too_long (runs v)) (sym d) ∙ r.long;
-      faces = omega (arith, r.faces, ap (λ (v : List ℕ). length (phed_rings v)) d);
-      words = omega (arith, r.words, ap (λ (v : List ℕ). ring_total (phed_rings v)) d);
-      few = omega (arith, r.few, r.within);
-      small = omega (arith, r.small, r.within);
+      long = sym (or-false t.long) ∙ ap (λ (l : List (List ℕ)). t.long || any too_long l) (sym is) ∙ p.long ∙ long_rings (runs ws);
+      faces = omega (arith, p.faces, ap length is);
+      words = omega (arith, p.words, ap ring_total is);
+      few = omega (arith, p.faces, h.0);
+      small = omega (arith, p.words, h.1);
     }

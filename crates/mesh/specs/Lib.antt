@@ -4,3 +4,8 @@ pub mod Rings
 pub mod Acceptance
 pub mod Lookup
 pub mod Steps
+pub mod Kinds
+pub mod Lent
+pub mod Counted
+pub mod PhedRest
+pub mod CellsRest

@@ -1,14 +1,12 @@
 -- The ring lookup and its companion, and the owners of a face.
 use Rattle.std.specs.Prelude.{ℕ, Bool, not, ◌||◌, List, [], ◌∷◌, ◌++◌, map, leb, eqb, length, get_or, take, drop}
 use Rattle.laws.specs.Lists.{only_if, keep}
-use Rattle.laws.specs.Refusals.{Answer, refused, done, refusal, answer, filled}
+use Rattle.laws.specs.Refusals.{Answer, refusal, answer, filled}
 use Rattle.mesh.specs.Model.{Model}
 use Rattle.mesh.specs.Rings.{Face, same_key, ring_words}
 use Rattle.mesh.specs.Acceptance.{model_table, faces_in}
 use Rattle.mesh.specs.declared.RingList.{RingList}
 use Rattle.mesh.specs.declared.RingList.TheVariants.{Raw, Welded}
-use Rattle.mesh.specs.declared.Counted.{Counted}
-use Rattle.mesh.specs.declared.Counted.TheVariants.{Refused, Count}
 
 abbrev pub no_face : Face
 no_face = record { num = 0; cell = 0; ring = [] }
@@ -67,8 +65,3 @@ owners_answer m f = answer (refusal (owners_table m f)) (length (owners_of (face
 -- fills as many as fit
 unfoldable pub owners_after : Model → ℕ → List ℕ → List ℕ
 owners_after m f lent = filled (refusal (owners_table m f)) (take (length lent) (owners_of (faces_in m) f)) lent
-
--- the number and the value for each case of the enum
-abbrev pub count_told : Counted → Answer ℕ
-count_told (Refused n) = refused n
-count_told (Count n) = done n

@@ -1,13 +1,11 @@
 -- For internal contracts: runs one by one, and what a pass over cells counts.
-use Rattle.std.specs.Prelude.{ℕ, suc, ◌+◌, ◌≤◌, ◌<◌, Bool, false, cond, List, [], ◌∷◌, ◌≡◌, ltb, eqb, length}
+use Rattle.std.specs.Prelude.{ℕ, suc, ◌+◌, ◌≤◌, ◌<◌, Bool, false, cond, ◌||◌, List, [], ◌∷◌, ◌≡◌, ltb, eqb, length}
 use Rattle.laws.specs.Limits.{ring_limit}
 use Rattle.laws.specs.Lists.{any, each}
-use Rattle.laws.specs.Refusals.{refusal}
 use Rattle.mesh.specs.Model.{Model, Raw}
 use Rattle.mesh.specs.Rings.{separator, runs, phed_rings, rings_of, ring_words}
-use Rattle.mesh.specs.Acceptance.{kind_off, count_wrong, cell_table, cells_table, model_refusal, faces_in}
+use Rattle.mesh.specs.Acceptance.{kind_off, count_wrong, faces_in}
 use Rattle.mesh.specs.declared.RunTally.{RunTally}
-use Rattle.mesh.specs.declared.CellTally.{CellTally}
 
 -- how many words stand before the first separator
 abbrev pub lead : List ℕ → ℕ
@@ -39,6 +37,10 @@ pub record WellCell (c : Raw) : Type 0 where
   pub kind : kind_off 0 c.kind ≡ false
   pub count : count_wrong c ≡ false
 
+-- the same as a test that is not met
+abbrev pub is_ill : Raw → Bool
+is_ill c = kind_off 0 c.kind || count_wrong c
+
 abbrev pub WellCells : List Raw → Type 0
 WellCells [] = Unit {0}
 WellCells (c ∷ cs) = WellCell c × WellCells cs
@@ -51,26 +53,9 @@ pub record KindCounted (c : Raw) (t : RunTally) : Type 0 where
   pub few : t.faces ≤ 6 + length c.words
   pub small : t.words ≤ 24 + length c.words
 
--- what is judged and counted of a cell, among n nodes and after one of kind `before`
-pub record CellCounted (n before : ℕ) (c : Raw) (t : CellTally) : Type 0 where
-  pub refusal : t.refusal ≡ refusal (cell_table n before c)
-  pub faces : t.refusal ≡ 0 → t.faces ≡ length (rings_of c)
-  pub words : t.refusal ≡ 0 → t.words ≡ ring_total (rings_of c)
-  pub few : t.faces ≤ 6 + length c.words
-  pub small : t.words ≤ 24 + length c.words
-
--- the same of cells
-pub record CellsCounted (n : ℕ) (cs : List Raw) (t : CellTally) : Type 0 where
-  pub refusal : t.refusal ≡ refusal (cells_table n 0 cs)
-  pub faces : t.refusal ≡ 0 → t.faces ≡ length (each rings_of cs)
-  pub words : t.refusal ≡ 0 → t.words ≡ ring_total (each rings_of cs)
-  pub few : t.faces < 4294967296
-  pub small : t.words < 4294967296
-
--- the same of a model
-pub record ModelCounted (m : Model) (t : CellTally) : Type 0 where
-  pub refusal : t.refusal ≡ model_refusal m
-  pub faces : t.refusal ≡ 0 → t.faces ≡ length (faces_in m)
-  pub words : t.refusal ≡ 0 → t.words ≡ length (ring_words (faces_in m))
-  pub few : t.faces < 4294967296
-  pub small : t.words < 4294967296
+-- F faces and R ring words are a model's
+pub record Tallied (m : Model) (f r : ℕ) : Type 0 where
+  pub faces : f ≡ length (faces_in m)
+  pub words : r ≡ length (ring_words (faces_in m))
+  pub few : f < 4294967296
+  pub small : r < 4294967296

@@ -1,13 +1,28 @@
 // The model: its check flags, and why it is refused; one pass over its cells judges and counts.
 #![tactic(auto)]
 
-ghost use Rattle.std.specs.Prelude.{◌≡◌, ◌||◌, not, cond, true, false, ◌+◌, ◌*◌, ◌≤◌, ◌<◌, leb, ltb, eqb, length, drop};
-ghost use Rattle.laws.specs.Limits.{cell_limit, word_limit, ring_limit};
+ghost use Rattle.std.specs.Prelude.{◌≡◌, ◌||◌, not, true, false, ◌+◌, ◌≤◌, ◌<◌, ltb, eqb, length};
+ghost use Rattle.laws.specs.Limits.{ring_limit};
 ghost use Rattle.laws.specs.Lists.{any};
-ghost use Rattle.geometry.specs.Coordinates.{count_off};
-ghost use Rattle.mesh.specs.Model.{cells_from, model_of, contains as containsOf, intersects as intersectsOf};
-ghost use Rattle.mesh.specs.Acceptance.{ends_off, kind_off, node_off};
-ghost use Rattle.mesh.specs.Steps.{lead, cell_with, RunsCounted, KindCounted, CellCounted, CellsCounted, ModelCounted};
+ghost use Rattle.laws.specs.Refusals.{answer};
+ghost use Rattle.refusals.specs.Told.{told_by};
+ghost use Rattle.mesh.specs.Model.{cells_from, contains as containsOf, intersects as intersectsOf};
+ghost use Rattle.mesh.specs.Lent.{lent, raw};
+ghost use Rattle.mesh.specs.Kinds.{kind_number};
+ghost use Rattle.mesh.specs.Acceptance.{shape_off, ends_off, node_off, model_refusal};
+ghost use Rattle.mesh.specs.Steps.{cell_with, RunsCounted, KindCounted};
+ghost use Rattle.mesh.specs.Counted.{CellCounted, CellsCounted, MeshCounted};
+
+pub use accepted::{Accepted, Cell, Cells};
+pub use kind::Kind;
+pub use model::{Model, RawCell, RawCells};
+pub use phed::{PhedRings, SEPARATOR};
+use refusals::Refusal;
+
+mod accepted; // an accepted model, and its cells
+mod kind; // the kinds of cells
+mod model; // a model in lent lists, and its cells as they stand there
+mod phed; // the rings of a PHED
 
 // The check flags.
 #[derive(Clone, Copy)]
@@ -41,16 +56,6 @@ pub enum RingList {
     Welded,
 }
 
-// What an operation that counts answers: a refusal's number, or the count.
-#[derive(Clone, Copy)]
-pub enum Counted {
-    Refused(u8),
-    Count(u32),
-}
-
-// The word that separates the rings of a PHED.
-pub const SEPARATOR: u32 = 4294967295;
-
 // What is counted of a PHED's words: whether a ring is too long, its faces and the words of these.
 #[derive(Clone, Copy)]
 pub struct RunTally {
@@ -59,75 +64,42 @@ pub struct RunTally {
     pub words: usize,
 }
 
-// What is judged and counted of cells: a refusal or 0, faces and ring words.
+// What is counted of cells: faces and ring words.
 #[derive(Clone, Copy)]
 pub struct CellTally {
-    pub refusal: u8,
     pub faces: usize,
     pub words: usize,
-}
-
-// A word as an index.
-pub fn wide(x: u32) -> usize
-    ensures { (result ≡ x) × (result < 4294967296) }
-{
-    x as usize
 }
 
 // Ends descend, or the last is not n.
 fn ends_off(ends: &[u32], n: usize) -> bool
     ensures { result ≡ ends_off 0 ends.now n }
 {
-    let mut at: usize = 0;
-    let mut i = 0;
-    while i < ends.len() {
-        let e = wide(ends[i]);
+    let mut at = 0;
+    for end in ends {
+        let e = *end as usize;
         if e < at {
             return true;
         }
         at = e;
-        i += 1;
     }
     at != n
 }
 
-// Where the run that starts at `from` ends: the next separator's place, or the end of the words.
-pub fn run_end(words: &[u32], from: usize) -> usize
-    requires { from ≤ length words.now }
-    ensures { (result ≡ from + lead (drop from words.now)) × (result ≤ length words.now) }
-{
-    let mut i = from;
-    while i < words.len() {
-        if words[i] == SEPARATOR {
-            return i;
-        }
-        i += 1;
-    }
-    i
-}
-
-// A run of so many words noted.
-fn note_run(t: RunTally, len: usize) -> RunTally
+// A ring of so many words noted.
+fn note_ring(t: RunTally, len: usize) -> RunTally
     requires { (t.faces < 4294967296) × (t.words < 4294967296) × (len < 4294967296) }
-    ensures { (result.long ≡ (t.long || ltb ring_limit len)) × (result.faces ≡ t.faces + cond (leb 3 len) 1 0) × (result.words ≡ t.words + cond (leb 3 len) len 0) }
+    ensures { (result.long ≡ (t.long || ltb ring_limit len)) × (result.faces ≡ t.faces + 1) × (result.words ≡ t.words + len) }
 {
     let over = len > 64;
-    let long = t.long | over;
-    if len < 3 {
-        return RunTally {
-            long: long,
-            faces: t.faces,
-            words: t.words,
-        };
-    }
     RunTally {
-        long: long,
+        long: t.long | over,
         faces: t.faces + 1,
         words: t.words + len,
     }
 }
 
-// A PHED's runs, one by one.
+// A PHED's rings, one by one. A run that is too long is a ring.
 pub fn tally_runs(words: &[u32]) -> RunTally
     requires { length words.now < 4294967296 }
     ensures { RunsCounted words.now result }
@@ -137,30 +109,17 @@ pub fn tally_runs(words: &[u32]) -> RunTally
         faces: 0,
         words: 0,
     };
-    let mut i: usize = 0;
-    while i < words.len() {
-        let e = run_end(words, i);
-        t = note_run(t, e - i);
-        i = e + 1;
+    for ring in PhedRings::new(words) {
+        t = note_ring(t, ring.len());
     }
     t
-}
-
-// A kind that is none, or out of order.
-fn kind_off(before: u8, kind: u8) -> bool
-    ensures { result ≡ kind_off before kind }
-{
-    let lower = kind < before;
-    let none = kind == 0;
-    let over = 4 < kind;
-    lower | none | over
 }
 
 // A word that is no node's number, and in a PHED no separator.
 fn node_off(nodes: usize, kind: u8, word: u32) -> bool
     ensures { result ≡ node_off nodes kind word }
 {
-    let large = nodes <= wide(word);
+    let large = nodes <= word as usize;
     let phed = kind == 4;
     let separates = word == SEPARATOR;
     large & !(phed & separates)
@@ -171,10 +130,8 @@ fn nodes_off(nodes: usize, kind: u8, words: &[u32]) -> bool
     ensures { result ≡ any (node_off nodes kind) words.now }
 {
     let mut off = false;
-    let mut i = 0;
-    while i < words.len() {
-        off = off | node_off(nodes, kind, words[i]);
-        i += 1;
+    for word in words {
+        off |= node_off(nodes, kind, *word);
     }
     off
 }
@@ -207,147 +164,111 @@ fn tally_phed(words: &[u32]) -> RunTally
     ensures { KindCounted (cell_with 4 words.now) result }
 {
     let t = tally_runs(words);
-    let none = words.len() == 0;
-    let long = none | t.long;
+    let none = words.is_empty();
     RunTally {
-        long: long,
+        long: none | t.long,
         faces: t.faces,
         words: t.words,
     }
 }
 
 // A cell's word count and rings, by its kind.
-pub fn tally_kind(kind: u8, words: &[u32]) -> RunTally
-    requires { (length words.now < 4294967296) × (kind_off 0 kind ≡ false) }
-    ensures { KindCounted (cell_with kind words.now) result }
+pub fn tally_kind(kind: Kind, words: &[u32]) -> RunTally
+    requires { length words.now < 4294967296 }
+    ensures { KindCounted (cell_with (kind_number kind) words.now) result }
 {
-    if kind == 1 {
-        return tally_fixed(words.len(), 4, 4, 12);
-    }
-    if kind == 2 {
-        return tally_fixed(words.len(), 8, 6, 24);
-    }
-    if kind == 3 {
-        return tally_fixed(words.len(), 6, 5, 18);
-    }
-    tally_phed(words)
-}
-
-fn refused(n: u8) -> CellTally
-    ensures { (result.refusal ≡ n) × (result.faces ≡ 0) × (result.words ≡ 0) }
-{
-    CellTally {
-        refusal: n,
-        faces: 0,
-        words: 0,
+    match kind {
+        Kind::Tet4 => tally_fixed(words.len(), 4, 4, 12),
+        Kind::Hex8 => tally_fixed(words.len(), 8, 6, 24),
+        Kind::Wedge6 => tally_fixed(words.len(), 6, 5, 18),
+        Kind::Phed => tally_phed(words),
     }
 }
 
 // A cell after one of kind `before`: kind, then count, then nodes, unless these are known to be `good`.
-fn tally_cell(kind: u8, before: u8, words: &[u32], nodes: usize, good: bool) -> CellTally
-    requires { (length words.now < 4294967296) × (good ≡ true → any (node_off nodes kind) words.now ≡ false) }
-    ensures { CellCounted nodes before (cell_with kind words.now) result }
+fn tally_cell(cell: &RawCell, before: u8, nodes: usize, good: bool) -> Result<CellTally, Refusal>
+    requires { (length cell.now.words.now < 4294967296) × (good ≡ true → any (node_off nodes cell.now.kind) cell.now.words.now ≡ false) }
+    ensures { CellCounted nodes before (raw cell.now) result }
 {
-    if kind_off(before, kind) {
-        return refused(9);
+    let kind = Kind::try_from(cell.kind)?;
+    if cell.kind < before {
+        return Err(Refusal::Cell);
     }
-    let t = tally_kind(kind, words);
+    let t = tally_kind(kind, cell.words);
     if t.long {
-        return refused(9);
+        return Err(Refusal::Cell);
     }
-    if nodes_off_unless(nodes, kind, words, good) {
-        return refused(9);
+    if nodes_off_unless(nodes, cell.kind, cell.words, good) {
+        return Err(Refusal::Cell);
     }
-    CellTally {
-        refusal: 0,
+    Ok(CellTally {
         faces: t.faces,
         words: t.words,
-    }
+    })
 }
 
 // The cells in order: the first refusal, or all faces and ring words.
-pub fn tally_cells(kinds: &[u8], ends: &[u32], words: &[u32], nodes: usize) -> CellTally
-    requires { (length kinds.now ≡ length ends.now) × (ends_off 0 ends.now (length words.now) ≡ false) × (length kinds.now ≤ 16384) × (length words.now ≤ 262144) }
-    ensures { CellsCounted nodes (cells_from 0 kinds.now ends.now words.now) result }
+fn tally_cells(model: &Model, nodes: usize) -> Result<CellTally, Refusal>
+    requires { (length model.now.kinds.now ≡ length model.now.ends.now) × (ends_off 0 model.now.ends.now (length model.now.words.now) ≡ false) × (length model.now.kinds.now ≤ 16384) × (length model.now.words.now ≤ 262144) }
+    ensures { CellsCounted nodes (cells_from 0 model.now.kinds.now model.now.ends.now model.now.words.now) result }
 {
     // no word is off in a cell of any kind; none is off in a PHED
-    let below = !nodes_off(nodes, 1, words);
-    let sound = !nodes_off_unless(nodes, 4, words, below);
-    let mut faces: usize = 0;
-    let mut ring_words: usize = 0;
-    let mut at: usize = 0;
-    let mut before: u8 = 0;
-    let mut i = 0;
-    while i < kinds.len() {
-        let e = wide(ends[i]);
-        let kind = kinds[i];
-        let good = below | (sound & (kind == 4));
-        let t = tally_cell(kind, before, &words[at..e], nodes, good);
-        if t.refusal != 0 {
-            return refused(t.refusal);
-        }
-        faces += t.faces;
-        ring_words += t.words;
-        before = kind;
-        at = e;
-        i += 1;
+    let below = !nodes_off(nodes, 1, model.words);
+    let sound = !nodes_off_unless(nodes, 4, model.words, below);
+    let mut all = CellTally { faces: 0, words: 0 };
+    let mut before = 0;
+    for cell in model.raw_cells() {
+        let good = below | (sound & (cell.kind == 4));
+        let t = tally_cell(&cell, before, nodes, good)?;
+        all.faces += t.faces;
+        all.words += t.words;
+        before = cell.kind;
     }
-    CellTally {
-        refusal: 0,
-        faces: faces,
-        words: ring_words,
-    }
+    Ok(all)
 }
 
 // Limits and lengths.
-fn shape_off(coords: usize, kinds: usize, ends: &[u32], words: usize) -> bool
-    ensures { result ≡ (count_off coords || ltb cell_limit kinds || ltb word_limit words || not (eqb kinds (length ends.now)) || ends_off 0 ends.now words) }
+fn shape_off(model: &Model) -> bool
+    ensures { result ≡ shape_off (lent model.now) }
 {
-    let count = geometry::count_off(coords);
-    let cells = 16384 < kinds;
-    let many = 262144 < words;
-    let unequal = kinds != ends.len();
-    let wrong = ends_off(ends, words);
+    let count = geometry::count_off(model.coords.len());
+    let cells = 16384 < model.kinds.len();
+    let many = 262144 < model.words.len();
+    let unequal = model.kinds.len() != model.ends.len();
+    let wrong = ends_off(model.ends, model.words.len());
     count | cells | many | unequal | wrong
 }
 
-// A model: the first of refusals 5 to 10, or 0 with its faces and ring words.
-pub fn accept(
-    coords: &[f64],
-    kinds: &[u8],
-    ends: &[u32],
-    words: &[u32],
-    tol: f64,
-    checks: Checks,
-) -> CellTally
-    ensures { ModelCounted (model_of coords.now kinds.now ends.now words.now tol checks.0 0) result }
+// The first of refusals 5 to 9, which look at no flags, or the faces and ring words.
+pub fn judge_mesh(model: &Model) -> Result<CellTally, Refusal>
+    ensures { MeshCounted (lent model.now) result }
 {
-    if shape_off(coords.len(), kinds.len(), ends, words.len()) {
-        return refused(5);
+    if shape_off(model) {
+        return Err(Refusal::Shape);
     }
-    if geometry::tolerance_off(tol) {
-        return refused(6);
+    if geometry::tolerance_off(model.tolerance) {
+        return Err(Refusal::Tolerance);
     }
-    if geometry::coordinates_off(coords) {
-        return refused(7);
+    if geometry::coordinates_off(model.coords) {
+        return Err(Refusal::Coordinate);
     }
-    if kinds.len() == 0 {
-        return refused(8);
+    if model.kinds.is_empty() {
+        return Err(Refusal::NoCells);
     }
-    let t = tally_cells(kinds, ends, words, coords.len() / 3);
-    if t.refusal != 0 {
-        return refused(t.refusal);
-    }
-    if 3 < checks.0 {
-        return refused(10);
-    }
-    t
+    tally_cells(model, model.node_count())
 }
 
-// 8R + 4F + 8C + 4N + 4M + 16
-pub fn work_needed(t: CellTally, cells: usize, nodes: usize, words: usize) -> usize
-    requires { (t.words < 4294967296) × (t.faces < 4294967296) × (cells < 4294967296) × (nodes < 4294967296) × (words < 4294967296) }
-    ensures { result ≡ 8 * t.words + 4 * t.faces + 8 * cells + 4 * nodes + 4 * words + 16 }
+// The first of refusals 5 to 10, or the model as accepted.
+pub fn accept<'a>(model: &Model<'a>) -> Result<Accepted<'a>, Refusal>
+    ensures { told_by (λ a. lent a.model) result ≡ answer (model_refusal (lent model.now)) (lent model.now) }
 {
-    8 * t.words + 4 * t.faces + 8 * cells + 4 * nodes + 4 * words + 16
+    let t = judge_mesh(model)?;
+    if 3 < model.checks.0 {
+        return Err(Refusal::Flags);
+    }
+    Ok(Accepted {
+        model: *model,
+        faces: t.faces,
+        ring_words: t.words,
+    })
 }

@@ -21,8 +21,9 @@ use Rattle.mesh.specs.Model.{Model, Raw, PHED, cells_from, cells_of}
 use Rattle.mesh.specs.Rings.{separator}
 use Rattle.mesh.specs.Acceptance.{ends_off, kind_off, count_wrong, node_off, cell_table, cells_table, shape_off, model_refusal}
 use Rattle.mesh.specs.Steps.{cell_with}
-use Rattle.mesh.proofs.CellTallies.{ends_most, nine}
-use Rattle.mesh.proofs.Accepted.{Shaped, shaped}
+use Rattle.mesh.proofs.Ends.{ends_most}
+use Rattle.mesh.proofs.CellTallies.{nine}
+use Rattle.mesh.proofs.ModelTable.{Shaped, shaped}
 use Rattle.model_file.proofs.Numbers.{all_append}
 use Rattle.model_file.proofs.Fields.{Word}
 use Rattle.model_file.proofs.Layouts.{Real}

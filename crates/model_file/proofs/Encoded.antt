@@ -14,7 +14,7 @@ use Rattle.laws.specs.Lists.{only_if, All}
 use Rattle.laws.proofs.Tests.{or_none}
 use Rattle.mesh.specs.Acceptance.{ends_off}
 use Rattle.mesh.specs.Steps.{cell_with}
-use Rattle.mesh.proofs.CellTallies.{ends_most}
+use Rattle.mesh.proofs.Ends.{ends_most}
 use Rattle.model_file.specs.Records.{last_record}
 use Rattle.model_file.specs.File.{node_records, more_records, cell_records, coords_of, kinds_of, words_of, ends_of}
 use Rattle.model_file.specs.Steps.{cells, judge}

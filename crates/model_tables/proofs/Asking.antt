@@ -18,7 +18,7 @@ use Rattle.mesh.proofs.Accepts.{accepts}
 use Rattle.mesh.proofs.CellWords.{words_low}
 use Rattle.faces.specs.Spans.{Sound, rings_in}
 use Rattle.faces.proofs.Rings.{sound_of}
-use Rattle.mesh.proofs.Accepted.{work_room}
+use Rattle.mesh.proofs.ModelTable.{work_room}
 use Rattle.layout.specs.declared.Layout.{Layout}
 use Rattle.layout.specs.Tables.{Ringed}
 use Rattle.model_tables.proofs.Contents.{Settled, RingTables, Marked}

@@ -20,7 +20,7 @@ use Rattle.mesh.specs.Rings.{runs, rings_of, node_set}
 use Rattle.mesh.specs.Acceptance.{count_wrong}
 use Rattle.mesh.specs.Steps.{ring_total, too_long, cell_with, WellCell, WellCells}
 use Rattle.mesh.proofs.ByKind.{tet_is, hex_is, wedge_is, phed_is}
-use Rattle.mesh.proofs.Cells.{the_fourth}
+use Rattle.mesh.proofs.CellKinds.{the_fourth}
 
 -- ---- 3 to 64 words
 

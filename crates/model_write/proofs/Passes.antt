@@ -16,7 +16,8 @@ use Rattle.laws.proofs.Stores.{sets_append}
 use Rattle.laws.proofs.Tests.{tested}
 use Rattle.mesh.specs.Acceptance.{ends_off}
 use Rattle.mesh.specs.Steps.{cell_with}
-use Rattle.mesh.proofs.CellTallies.{ends_most, ends_next, left_next}
+use Rattle.mesh.proofs.Ends.{ends_most}
+use Rattle.mesh.proofs.CellTallies.{ends_next, left_next}
 use Rattle.model_file.specs.Records.{node_record, word_record, cell_record, more_record}
 use Rattle.model_file.specs.File.{node_records, more_records, cell_records}
 use Rattle.model_file.specs.Steps.{join, cells}

@@ -15,7 +15,7 @@ use Rattle.geometry.specs.Coordinates.{node_count, tolerance_off}
 use Rattle.mesh.specs.Model.{Model, Raw, TET4, HEX8, WEDGE6, PHED, ascending}
 use Rattle.mesh.specs.Rings.{separator, runs, ring_words}
 use Rattle.mesh.specs.Acceptance.{ends_off, count_wrong, node_off, faces_in, work_needed}
-use Rattle.mesh.proofs.Accepted.{face_count_lem, ring_words_lem}
+use Rattle.mesh.proofs.ModelTable.{face_count_lem, ring_words_lem}
 use Rattle.mesh.proofs.Accepts.{cell_wrong, Accepts}
 use Rattle.renumber.specs.Renumbering.{Renumbering}
 use Rattle.renumber.proofs.Alike.{Alike, empty, link, length_alike, each_alike, any_alike, with_none}

@@ -13,7 +13,7 @@ use Rattle.mesh.specs.Model.{Model, Raw, cells_from, cells_of}
 use Rattle.mesh.specs.Rings.{rings_of}
 use Rattle.mesh.specs.Acceptance.{model_refusal}
 use Rattle.mesh.specs.Steps.{ring_total, WellCells}
-use Rattle.mesh.proofs.Accepted.{ring_words_lem}
+use Rattle.mesh.proofs.ModelTable.{ring_words_lem}
 use Rattle.mesh.proofs.Accepts.{Accepts, accepts}
 use Rattle.mesh.proofs.NodeNumbers.{well_cells, cells_below}
 use Rattle.snap.specs.Weld.{welded_by}

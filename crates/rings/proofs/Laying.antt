@@ -13,7 +13,8 @@ use Rattle.mesh.specs.Model.{Raw, cells_from}
 use Rattle.mesh.specs.Rings.{rings_of}
 use Rattle.mesh.specs.Acceptance.{ends_off}
 use Rattle.mesh.specs.Steps.{ring_total, cell_with, WellCell, WellCells}
-use Rattle.mesh.proofs.CellTallies.{ends_most, ends_next, left, left_next, total_append}
+use Rattle.mesh.proofs.Ends.{ends_most}
+use Rattle.mesh.proofs.CellTallies.{ends_next, left, left_next, total_append}
 use Rattle.rings.proofs.Polyhedra.{flat}
 
 -- what is put before cell i, with what is left from there, is all

@@ -12,7 +12,7 @@ use Rattle.laws.proofs.ListLaws.{each_append}
 use Rattle.mesh.specs.Model.{Model, Raw, cells_of}
 use Rattle.mesh.specs.Rings.{Cell, Face, rings_of, number_from, numbered, faces_of, faces}
 use Rattle.mesh.specs.Acceptance.{faces_in}
-use Rattle.mesh.proofs.Accepted.{rings_numbered}
+use Rattle.mesh.proofs.ModelTable.{rings_numbered}
 use Rattle.findings.specs.Rules.{cells_in}
 use Rattle.findings.specs.Compared.{none}
 

@@ -12,7 +12,7 @@ use Rattle.mesh.specs.Model.{Model, model_of}
 use Rattle.mesh.specs.Acceptance.{model_refusal, faces_in, work_needed}
 use Rattle.mesh.proofs.Accepts.{accepts}
 use Rattle.mesh.proofs.CellWords.{few_nodes}
-use Rattle.mesh.proofs.Accepted.{work_is_lem}
+use Rattle.mesh.proofs.ModelTable.{work_is_lem}
 use Rattle.seek.proofs.Tallies.{tallied_as, tallied_then, tallied_zero}
 use Rattle.candidates.proofs.Answers.{row_model, row_work, row_face, row_none, refused_so, sought_so}
 use Rattle.candidates.proofs.face_candidates.Goals as goal

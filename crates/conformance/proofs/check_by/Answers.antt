@@ -13,7 +13,7 @@ use Rattle.mesh.specs.Acceptance.{model_refusal, work_needed}
 use Rattle.mesh.proofs.Accepts.{accepts}
 use Rattle.seek.proofs.Tallies.{tallied_as}
 use Rattle.mesh.proofs.CellWords.{few_nodes}
-use Rattle.mesh.proofs.Accepted.{work_is_lem}
+use Rattle.mesh.proofs.ModelTable.{work_is_lem}
 use Rattle.conformance.proofs.Answers.{row_model, row_work, row_none, checked_so, cap_refusal, cap_work, cap_kept}
 use Rattle.conformance.proofs.Ways.{refused_by, checked_by, cap_way, cap_sought}
 use Rattle.conformance.proofs.check_by.Goals as goal

@@ -1,6 +1,6 @@
 use native.Mathlib.Omega.{arith}
 use Rattle.faces.proofs.Spanning.{tet_span, hex_span, of_rings, fixed_span, phed_span_lem}
-use Rattle.mesh.proofs.Cells.{the_fourth}
+use Rattle.mesh.proofs.CellKinds.{the_fourth}
 use Rattle.mesh.proofs.ByKind.{tet_is, hex_is, wedge_is, phed_is}
 use Rattle.faces.proofs.cell_span.Goals as goal
 

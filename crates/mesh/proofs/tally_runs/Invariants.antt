@@ -1,10 +1,6 @@
+use Rattle.mesh.specs.PhedRest.{phed_rest}
 use Rattle.mesh.proofs.RunTallies.{Running}
-use lib.ListN.{length}
-use Prim.Native.Nat.{◌-◌}
 use Rattle.mesh.proofs.tally_runs.Given as goal
 
-abbrev pub invariant-loop-i : goal.invariant-loop-i
-invariant-loop-i l = Running l.words l.t l.i
-
-abbrev pub decreases-loop-i : goal.decreases-loop-i
-decreases-loop-i l = length l.words - l.i
+abbrev pub invariant-loop-ring : goal.invariant-loop-ring
+invariant-loop-ring l = Running l.words l.t (phed_rest l.ring-iterator)

@@ -5,7 +5,7 @@ use Rattle.mesh.specs.Acceptance.{work_needed}
 use Rattle.ring_lists.specs.Filling.{raw_rings}
 use Rattle.ring_lists.proofs.Answers.{row_model, row_work, row_raw, row_welded, row_none, refused_so, filled_so, words_are}
 use Rattle.mesh.proofs.CellWords.{few_nodes}
-use Rattle.mesh.proofs.Accepted.{work_is_lem}
+use Rattle.mesh.proofs.ModelTable.{work_is_lem}
 use Rattle.mesh.proofs.Accepts.{accepts}
 use Rattle.mesh.specs.Model.{model_of}
 use lib.ListN.{length}

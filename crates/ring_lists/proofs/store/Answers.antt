@@ -1,7 +1,7 @@
 use native.Mathlib.Omega.{arith}
 use Rattle.laws.proofs.Stores.{cleared}
 use Rattle.ring_lists.proofs.Lists.{raw_total, cells_well, raw_below, front, raw_stored, welded_stored}
-use Rattle.mesh.proofs.Accepted.{work_room}
+use Rattle.mesh.proofs.ModelTable.{work_room}
 use Rattle.mesh.proofs.Accepts.{accepts}
 use Rattle.mesh.proofs.CellWords.{words_low, few_nodes}
 use Rattle.mesh.specs.Model.{model_of}

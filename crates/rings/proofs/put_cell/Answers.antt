@@ -1,5 +1,5 @@
 use Rattle.mesh.proofs.ByKind.{tet_is, hex_is, wedge_is, phed_is}
-use Rattle.mesh.proofs.Cells.{the_fourth}
+use Rattle.mesh.proofs.CellKinds.{the_fourth}
 use Rattle.mesh.specs.Steps.{ring_total}
 use Rattle.laws.specs.Lists.{each}
 use lib.Seq.{sets}

@@ -3,7 +3,7 @@ use mathlib.Core.Path.{refl, sym, ap, subst}
 use mathlib.Core.List.{List, map}
 use lib.ListN.{length}
 use Rattle.faces.proofs.Noting.{noted_as}
-use Rattle.mesh.proofs.Cells.{the_fourth}
+use Rattle.mesh.proofs.CellKinds.{the_fourth}
 use Rattle.mesh.proofs.ByKind.{tet_is, hex_is, wedge_is, phed_is}
 use Rattle.tables.proofs.cell_lengths.Goals as goal
 

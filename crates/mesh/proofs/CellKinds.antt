@@ -15,9 +15,8 @@ use Rattle.laws.proofs.Tests.{tested, clash, or_none}
 use Rattle.mesh.specs.Model.{Raw, TET4, PHED}
 use Rattle.mesh.specs.Rings.{rings_of}
 use Rattle.mesh.specs.Acceptance.{kind_off, count_wrong, node_off, cell_table}
-use Rattle.mesh.specs.Steps.{cell_with, RunsCounted, KindCounted, CellCounted}
+use Rattle.mesh.specs.Steps.{cell_with, RunsCounted, KindCounted}
 use Rattle.mesh.specs.declared.RunTally.{RunTally}
-use Rattle.mesh.specs.declared.CellTally.{CellTally}
 
 -- ---- counts
 
@@ -81,27 +80,6 @@ judged_nodes n before c e f g = rw (e, f, g)
 pub judged_well_lem : (n before : ℕ) (c : Raw) → kind_off before c.kind ≡ false → count_wrong c ≡ false → any (node_off n c.kind) c.words ≡ false → refusal (cell_table n before c) ≡ 0
 unfolding cell_table
 judged_well_lem n before c e f g = rw (e, f, g)
-
--- a cell that is refused, and one that is not
-pub cell_refused : (n before : ℕ) (c : Raw) (t : CellTally) → refusal (cell_table n before c) ≡ 9 → t.refusal ≡ 9 → t.faces ≡ 0 → t.words ≡ 0 → CellCounted n before c t
-cell_refused n before c t e a b d =
-    record {
-      refusal = a ∙ sym e;
-      faces = λ z. absurd (omega arith);
-      words = λ z. absurd (omega arith);
-      few = omega arith;
-      small = omega arith;
-    }
-
-pub cell_passed : (n before : ℕ) (c : Raw) (t : CellTally) (u : RunTally) → refusal (cell_table n before c) ≡ 0 → KindCounted c u → t.refusal ≡ 0 → t.faces ≡ u.faces → t.words ≡ u.words → CellCounted n before c t
-cell_passed n before c t u e k a b d =
-    record {
-      refusal = a ∙ sym e;
-      faces = λ z. b ∙ k.faces;
-      words = λ z. d ∙ k.words;
-      few = omega (arith, b, k.few);
-      small = omega (arith, d, k.small);
-    }
 
 -- a kind in order after another is a kind
 pub kind_alone : (before k : ℕ) → kind_off before k ≡ false → kind_off 0 k ≡ false

@@ -16,9 +16,8 @@ use Rattle.laws.proofs.Tests.{or_none}
 use Rattle.geometry.specs.Coordinates.{node_count, count_off, tolerance_off, coordinates_off}
 use Rattle.mesh.specs.Model.{Model, Raw, cells_of}
 use Rattle.mesh.specs.Rings.{Face, rings_of, faces_from, number_from, numbered, faces_of, faces, ring_words}
-use Rattle.mesh.specs.Acceptance.{ends_off, shape_off, cell_table, cells_table, model_refusal, faces_in, work_needed}
-use Rattle.mesh.specs.Steps.{CellsCounted, ModelCounted}
-use Rattle.mesh.specs.declared.CellTally.{CellTally}
+use Rattle.mesh.specs.Acceptance.{ends_off, shape_off, cell_table, cells_table, mesh_table, model_refusal, faces_in, work_needed}
+use Rattle.mesh.specs.Steps.{Tallied}
 use Rattle.mesh.proofs.CellTallies.{nine}
 
 -- ---- lengths and limits
@@ -63,47 +62,47 @@ pub record Before9 (m : Model) : Type 0 where
   pub coordinates : coordinates_off m.coords ≡ false
   pub some : length m.kinds ≢ 0
 
-pub row5 : (m : Model) → shape_off m ≡ true → model_refusal m ≡ 5
-unfolding model_refusal
+pub row5 : (m : Model) → shape_off m ≡ true → refusal (mesh_table m) ≡ 5
 row5 m a = rw a
 
-pub row6 : (m : Model) → shape_off m ≡ false → tolerance_off m.tolerance ≡ true → model_refusal m ≡ 6
-unfolding model_refusal
+pub row6 : (m : Model) → shape_off m ≡ false → tolerance_off m.tolerance ≡ true → refusal (mesh_table m) ≡ 6
 row6 m a b = rw (a, b)
 
-pub row7 : (m : Model) → shape_off m ≡ false → tolerance_off m.tolerance ≡ false → coordinates_off m.coords ≡ true → model_refusal m ≡ 7
-unfolding model_refusal
+pub row7 : (m : Model) → shape_off m ≡ false → tolerance_off m.tolerance ≡ false → coordinates_off m.coords ≡ true → refusal (mesh_table m) ≡ 7
 row7 m a b c = rw (a, b, c)
 
-pub row8 : (m : Model) → shape_off m ≡ false → tolerance_off m.tolerance ≡ false → coordinates_off m.coords ≡ false → length m.kinds ≡ 0 → model_refusal m ≡ 8
-unfolding model_refusal
+pub row8 : (m : Model) → shape_off m ≡ false → tolerance_off m.tolerance ≡ false → coordinates_off m.coords ≡ false → length m.kinds ≡ 0 → refusal (mesh_table m) ≡ 8
 row8 m a b c d = rw (a, b, c, eq-eqb (length m.kinds) 0 d)
 
 -- the refusal of the cells
 abbrev pub cells_refusal : Model → ℕ
 cells_refusal m = refusal (cells_table (node_count m.coords) 0 (cells_of m))
 
-rows9 : (m : Model) → Before9 m → model_refusal m ≡ refusal (cells_table (node_count m.coords) 0 (cells_of m) ++ ((10, ltb flag_limit m.flags) ∷ []))
-unfolding model_refusal
+pub rows9 : (m : Model) → Before9 m → refusal (mesh_table m) ≡ cells_refusal m
 rows9 m b = rw (b.shape, b.tolerance, b.coordinates, ne_eqb (length m.kinds) 0 b.some)
 
 pub nines : (n before : ℕ) (cs : List Raw) → Numbered (cells_table n before cs)
 nines n before [] = tt
 nines n before (c ∷ cs) = numbered_append (cell_table n before c) (cells_table n c.kind cs) (nine n before c) (nines n c.kind cs)
 
-pub row9 : (m : Model) → Before9 m → cells_refusal m ≢ 0 → model_refusal m ≡ cells_refusal m
-row9 m b z = rows9 m b ∙ refusal_first (cells_table (node_count m.coords) 0 (cells_of m)) ((10, ltb flag_limit m.flags) ∷ []) z
+-- ---- the mesh, then the flags
 
-rows10 : (m : Model) → Before9 m → cells_refusal m ≡ 0 → model_refusal m ≡ refusal ((10, ltb flag_limit m.flags) ∷ [])
-rows10 m b z =
-    let t = cells_table (node_count m.coords) 0 (cells_of m) in
-    rows9 m b ∙ refusal_second t ((10, ltb flag_limit m.flags) ∷ []) (nines (node_count m.coords) 0 (cells_of m)) z
+mesh_numbered : (m : Model) → Numbered (mesh_table m)
+mesh_numbered m = (λ e. omega arith, (λ e. omega arith, (λ e. omega arith, (λ e. omega arith, nines (node_count m.coords) 0 (cells_of m)))))
 
-pub row10 : (m : Model) → Before9 m → cells_refusal m ≡ 0 → flag_limit < m.flags → model_refusal m ≡ 10
-row10 m b z f = rows10 m b z ∙ rw (lt-ltb flag_limit m.flags f)
+pub mesh_first : (m : Model) → refusal (mesh_table m) ≢ 0 → model_refusal m ≡ refusal (mesh_table m)
+unfolding model_refusal
+mesh_first m z = refusal_first (mesh_table m) ((10, ltb flag_limit m.flags) ∷ []) z
 
-pub no_row : (m : Model) → Before9 m → cells_refusal m ≡ 0 → m.flags ≤ flag_limit → model_refusal m ≡ 0
-no_row m b z f = rows10 m b z ∙ rw (le-ltb flag_limit m.flags f)
+flags_next : (m : Model) → refusal (mesh_table m) ≡ 0 → model_refusal m ≡ refusal ((10, ltb flag_limit m.flags) ∷ [])
+unfolding model_refusal
+flags_next m z = refusal_second (mesh_table m) ((10, ltb flag_limit m.flags) ∷ []) (mesh_numbered m) z
+
+pub flags_off : (m : Model) → refusal (mesh_table m) ≡ 0 → flag_limit < m.flags → model_refusal m ≡ 10
+flags_off m z f = flags_next m z ∙ rw (lt-ltb flag_limit m.flags f)
+
+pub no_row : (m : Model) → refusal (mesh_table m) ≡ 0 → m.flags ≤ flag_limit → model_refusal m ≡ 0
+no_row m z f = flags_next m z ∙ rw (le-ltb flag_limit m.flags f)
 
 -- ---- faces by cells
 
@@ -141,29 +140,12 @@ length_rings (f ∷ fs) = ap suc (length_rings fs)
 pub face_count_lem : (m : Model) → length (faces_in m) ≡ length (each rings_of (cells_of m))
 face_count_lem m = sym (length_rings (faces_in m)) ∙ ap length (rings_in_lem m)
 
--- ---- the answer
-
-pub model_refused : (m : Model) (t : CellTally) (n : ℕ) → model_refusal m ≡ n → n ≢ 0 → (t.refusal ≡ n) × (t.faces ≡ 0) × (t.words ≡ 0) → ModelCounted m t
-model_refused m t n e z a =
-    record {
-      refusal = a.0 ∙ sym e;
-      faces = λ y. absurd (z (sym a.0 ∙ y));
-      words = λ y. absurd (z (sym a.0 ∙ y));
-      few = omega (arith, a.1);
-      small = omega (arith, a.2);
-    }
-
-pub model_passed : (m : Model) (t : CellTally) → model_refusal m ≡ 0 → CellsCounted (node_count m.coords) (cells_of m) t → t.refusal ≡ 0 → ModelCounted m t
-model_passed m t e c z =
-    record { refusal = z ∙ sym e; faces = λ y. c.faces y ∙ sym (face_count_lem m); words = λ y. c.words y ∙ ap length (sym (ring_words_lem m)); few = c.few; small = c.small }
-
 -- ---- the work needed
 
 -- from the counts
-pub work_is_lem : (m : Model) (t : CellTally) → ModelCounted m t → t.refusal ≡ 0
-    → 8 * t.words + 4 * t.faces + 8 * length m.kinds + 4 * node_count m.coords + 4 * length m.words + 16 ≡ work_needed m
+pub work_is_lem : (m : Model) (f r : ℕ) → Tallied m f r → 8 * r + 4 * f + 8 * length m.kinds + 4 * node_count m.coords + 4 * length m.words + 16 ≡ work_needed m
 unfolding work_needed
-work_is_lem m t c z = rw (c.words z, c.faces z)
+work_is_lem m f r t = rw (t.words, t.faces)
 
 -- it holds three words a node
 pub work_room : (m : Model) → 3 * node_count m.coords ≤ work_needed m

@@ -1,4 +1,0 @@
-use Rattle.mesh.proofs.node_off.Goals as goal
-
-pub returns : goal.returns
-returns c = rw c.wide.ensures.0

@@ -1,0 +1,65 @@
+// The rings of a PHED: the runs of its words between separators, those under three nodes dropped.
+ghost use Rattle.std.specs.Prelude.{◌≡◌, length, drop, suc};
+ghost use Rattle.mesh.specs.Steps.{lead};
+
+// The word that separates the rings of a PHED.
+pub const SEPARATOR: u32 = 4294967295;
+
+// How many words stand before the first separator.
+fn lead(words: &[u32]) -> usize
+    ensures { result ≡ lead words.now }
+{
+    for i in 0..words.len() {
+        if words[i] == SEPARATOR {
+            return i;
+        }
+    }
+    words.len()
+}
+
+// What stands behind the first n words and a separator.
+fn behind(words: &[u32], n: usize) -> &[u32]
+    ensures { result.now ≡ drop (suc n) words.now }
+{
+    if words.len() <= n {
+        return &words[words.len()..];
+    }
+    &words[n + 1..]
+}
+
+// The rings that are left, one by one.
+#[derive(Clone, Copy)]
+pub struct PhedRings<'a> {
+    pub words: &'a [u32],
+}
+
+impl<'a> PhedRings<'a> {
+    pub fn new(words: &'a [u32]) -> PhedRings<'a>
+        ensures { result.words.now ≡ words.now }
+    {
+        PhedRings { words }
+    }
+}
+
+impl<'a> Iterator for PhedRings<'a> {
+    ghost use Rattle.std.specs.Iterator.{YieldsFirstBy, item_count};
+    ghost use Rattle.mesh.specs.PhedRest.{phed_rest};
+
+    type Item = &'a [u32];
+
+    ghost next_gives = { YieldsFirstBy (λ r. r.now) phed_rest };
+
+    ghost remaining = { item_count phed_rest };
+
+    fn next(&mut self) -> Option<&'a [u32]> {
+        while !self.words.is_empty() {
+            let n = lead(self.words);
+            let run = &self.words[..n];
+            self.words = behind(self.words, n);
+            if 3 <= n {
+                return Some(run);
+            }
+        }
+        None
+    }
+}
