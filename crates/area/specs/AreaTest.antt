@@ -4,7 +4,7 @@ use Rattle.std.specs.Float.{binary64}
 use Rattle.std.specs.Float.Ieee.{mul, lt, le}
 use Rattle.laws.specs.Lists.{any, first, keep, fold}
 use Rattle.laws.specs.Limits.{ring_limit}
-use Rattle.laws.specs.Refusals.{Answer, refused, done, refusal, answer}
+use Rattle.laws.specs.Refusals.{Answer, refusal, answer}
 use Rattle.floats.specs.Floats.{zero64, larger_of}
 use Rattle.geometry.specs.Points.{point_sub, point_cross, length_of, points_of}
 use Rattle.geometry.specs.Scale.{scale_of, eps_of}
@@ -12,8 +12,6 @@ use Rattle.geometry.specs.Coordinates.{node_count, count_off, tolerance_off, coo
 use Rattle.geometry.specs.declared.Point.{Point}
 use Rattle.area.specs.declared.Area.{Area}
 use Rattle.area.specs.declared.Area.TheVariants.{TooFew, Together, NoDirection, Thin, Spans}
-use Rattle.area.specs.declared.AreaAnswer.{AreaAnswer}
-use Rattle.area.specs.declared.AreaAnswer.TheVariants.{Refused, Says}
 
 -- ---- differences from the first point
 
@@ -78,8 +76,3 @@ area_table c ks tol =
 
 unfoldable pub area_answer : List Float → List ℕ → Float → Answer Area
 area_answer c ks tol = answer (refusal (area_table c ks tol)) (area_of tol (points_of c ks))
-
--- the number and the value for each case of the enum
-abbrev pub area_told : AreaAnswer → Answer Area
-area_told (Refused n) = refused n
-area_told (Says a) = done a

@@ -5,12 +5,14 @@
 ghost use Rattle.std.specs.Prelude.{◌≡◌, ◌<◌, ◌≤◌, length, get_or, drop};
 ghost use Rattle.std.specs.Float.Ieee.{lt};
 ghost use Rattle.floats.specs.Floats.{larger_of};
+ghost use Rattle.refusals.specs.Told.{told};
 ghost use Rattle.geometry.specs.Points.{point_sub, point_dot, point_cross, length_of, point_at, points_of};
 ghost use Rattle.geometry.specs.Steps.{InNodes};
-ghost use Rattle.area.specs.AreaTest.{extent_of, direction_of, thick_of, area_of, is_spans, list_off, area_answer, area_told};
+ghost use Rattle.area.specs.AreaTest.{extent_of, direction_of, thick_of, area_of, is_spans, list_off, area_answer};
 ghost use Rattle.area.specs.Steps.{away_from, most_of, headed};
 
 use geometry::Point;
+use refusals::Refusal;
 
 // What the area test says of a list of nodes.
 #[derive(Clone, Copy)]
@@ -20,13 +22,6 @@ pub enum Area {
     NoDirection,
     Thin,
     Spans,
-}
-
-// What the public area test answers: a refusal's number, or what the test says.
-#[derive(Clone, Copy)]
-pub enum AreaAnswer {
-    Refused(u8),
-    Says(Area),
 }
 
 // The first difference that is longer than eps.
@@ -180,23 +175,23 @@ fn list_off(n: usize, nodes: &[u32]) -> bool
 }
 
 // The area test, for any lists and any tolerance.
-pub fn area_test(coords: &[f64], nodes: &[u32], tol: f64) -> AreaAnswer
-    ensures { area_told result ≡ area_answer coords.now nodes.now tol }
+pub fn area_test(coords: &[f64], nodes: &[u32], tol: f64) -> Result<Area, Refusal>
+    ensures { told result ≡ area_answer coords.now nodes.now tol }
 {
     if geometry::count_off(coords.len()) {
-        return AreaAnswer::Refused(5);
+        return Err(Refusal::Shape);
     }
     if 64 < nodes.len() {
-        return AreaAnswer::Refused(5);
+        return Err(Refusal::Shape);
     }
     if geometry::tolerance_off(tol) {
-        return AreaAnswer::Refused(6);
+        return Err(Refusal::Tolerance);
     }
     if geometry::coordinates_off(coords) {
-        return AreaAnswer::Refused(7);
+        return Err(Refusal::Coordinate);
     }
     if list_off(coords.len() / 3, nodes) {
-        return AreaAnswer::Refused(12);
+        return Err(Refusal::Number);
     }
-    AreaAnswer::Says(area_of(coords, nodes, tol))
+    Ok(area_of(coords, nodes, tol))
 }

@@ -10,8 +10,11 @@ ghost use Rattle.laws.specs.Bytes.{number, bytes};
 ghost use Rattle.floats.specs.Floats.{absolute_of, larger_of, float_of, float_bytes};
 ghost use Rattle.floats.specs.Root.{root_of_units};
 ghost use Rattle.floats.specs.Root as Spec;
-ghost use Rattle.floats.specs.RootAnswer.{root_told, root_answer};
+ghost use Rattle.refusals.specs.Told.{told};
+ghost use Rattle.floats.specs.RootAnswer.{root_answer};
 ghost use Rattle.floats.specs.Steps.{Rest};
+
+use refusals::Refusal;
 
 // ---- the root
 
@@ -124,24 +127,17 @@ pub fn root_over(v: f64, e: f64) -> bool
     sqrt(v) > e
 }
 
-// What the public operation on a root answers: the root, or a refusal.
-#[derive(Clone, Copy)]
-pub enum Rooted {
-    Value(f64),
-    Refused,
-}
-
 // The public operation: the root of x; refused for a NaN or a number below zero.
-pub fn root(x: f64) -> Rooted
-    ensures { root_told result ≡ root_answer x }
+pub fn root(x: f64) -> Result<f64, Refusal>
+    ensures { told result ≡ root_answer x }
 {
     if x != x {
-        return Rooted::Refused;
+        return Err(Refusal::Root);
     }
     if x < 0.0 {
-        return Rooted::Refused;
+        return Err(Refusal::Root);
     }
-    Rooted::Value(sqrt(x))
+    Ok(sqrt(x))
 }
 
 // ---- absolute value, the larger of two
