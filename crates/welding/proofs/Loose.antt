@@ -15,6 +15,7 @@ use Rattle.laws.specs.Lists.{only_if, any, elem, sort, up_from}
 use Rattle.laws.proofs.Tests.{tested, or_none, split}
 use Rattle.laws.proofs.ListLaws.{any_append, length-up_from, get_or-up_from, get_or_any}
 use Rattle.laws.proofs.Members.{elem-sort}
+use Rattle.std.specs.Prelude.{Ok}
 use Rattle.laws.proofs.Tables.{answered_done}
 use Rattle.floats.specs.Floats.{zero64}
 use Rattle.geometry.specs.Coordinates.{node_count}
@@ -22,7 +23,6 @@ use Rattle.mesh.specs.Model.{Model, cells_of}
 use Rattle.snap.specs.Weld.{before_of, far_of, near_of, takes, groups, least, give, spread, welded, welded_by}
 use Rattle.welding.specs.Used.{used_nodes, welded_used, welds_of}
 use Rattle.welding.specs.Welding.{weld_refusal, Welding}
-use Rattle.welding.specs.declared.WeldAnswer.TheVariants.{Filled}
 use Rattle.welding.proofs.Used.{length_welds}
 
 module _ (a : ℕ) where
@@ -84,7 +84,7 @@ unfolding welded_used
 loose_stays m a h = welded_out a m.coords m.tolerance (node_count m.coords) (used_nodes (cells_of m)) h
 
 -- so it does in the map that welding fills
-pub loose_in_map : (m : Model) (map map' scratch scratch' : List ℕ) (a : ℕ) → Welding m map map' scratch scratch' Filled → elem a (used_nodes (cells_of m)) ≡ false
+pub loose_in_map : (m : Model) (map map' scratch scratch' : List ℕ) (a : ℕ) → Welding m map map' scratch scratch' (Ok tt) → elem a (used_nodes (cells_of m)) ≡ false
     → a < node_count m.coords → get_or map' a 0 ≡ a
 loose_in_map m map map' scratch scratch' a p h k =
     let e = (answered_done (weld_refusal m map scratch) tt tt p.answered).0 in

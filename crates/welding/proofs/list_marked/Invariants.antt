@@ -1,4 +1,4 @@
-use Prim.Native.Nat.{◌-◌, ◌≤◌}
+use Prim.Native.Nat.{◌≤◌}
 use mathlib.Core.Path.{◌≡◌}
 use lib.ListN.{length}
 use lib.Seq.{sets}
@@ -7,7 +7,4 @@ use Rattle.snap.specs.Steps.{marked}
 use Rattle.welding.proofs.list_marked.Given as goal
 
 abbrev pub invariant-loop-i : goal.invariant-loop-i
-invariant-loop-i l = (l.i ≤ l.n) × (l.last ≡ length (keep (marked l.k l.initial.work) (up_from 0 l.i))) × (l.work ≡ sets l.initial.work 0 (keep (marked l.k l.initial.work) (up_from 0 l.i))) × (length l.work ≡ length l.initial.work) × (l.last ≤ l.i)
-
-abbrev pub decreases-loop-i : goal.decreases-loop-i
-decreases-loop-i l = l.n - l.i
+invariant-loop-i l = (l.last ≡ length (keep (marked l.k l.initial.work) (up_from 0 l.i))) × (l.work ≡ sets l.initial.work 0 (keep (marked l.k l.initial.work) (up_from 0 l.i))) × (l.last ≤ l.i)

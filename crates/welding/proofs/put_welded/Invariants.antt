@@ -1,14 +1,10 @@
-use Prim.Native.Nat.{◌-◌, ◌≤◌}
 use mathlib.Core.Path.{◌≡◌}
 use mathlib.Core.List.{map}
-use lib.ListN.{length, take}
+use lib.ListN.{take}
 use lib.Seq.{sets}
 use Rattle.laws.specs.Merging.{region}
 use Rattle.snap.specs.Weld.{welded_by}
 use Rattle.welding.proofs.put_welded.Given as goal
 
 abbrev pub invariant-loop-i : goal.invariant-loop-i
-invariant-loop-i l = (l.i ≤ length l.words) × (l.out ≡ sets l.initial.out 0 (take l.i (map (welded_by (region l.o l.n l.work)) l.words))) × (length l.out ≡ length l.initial.out)
-
-abbrev pub decreases-loop-i : goal.decreases-loop-i
-decreases-loop-i l = length l.words - l.i
+invariant-loop-i l = l.out ≡ sets l.initial.out 0 (take l.i (map (welded_by (region l.o l.n l.work)) l.words))

@@ -1,48 +1,70 @@
--- An answer of 0 gives what weld_named requires accepted; the rest is said on lists, in Answers.
-use mathlib.Core.Path.{◌≡◌, refl, sym, ◌∙◌}
+-- Each return has the tests that led there; the rest is said on lists, in Answers.
+use Prim.Native.Nat.{ℕ, ◌+◌, ◌-◌, ◌*◌, ◌≤◌, ◌<◌}
+use mathlib.Core.Path.{◌≡◌, sym, ap, ◌∙◌, subst}
+use mathlib.Core.List.{List, ◌++◌}
 use native.Mathlib.Omega.{arith}
-use lib.ListN.{length}
-use Rattle.mesh.specs.Model.{Model, model_of}
-use Rattle.mesh.proofs.Accepts.{accepts}
+use lib.ListN.{length, take, drop, replicate}
+use lib.Seq.{sets}
+use Rattle.std.proofs.lemmas.Result.{err_from_is_err_and}
+use Rattle.laws.specs.Limits.{node_limit}
+use Rattle.laws.specs.Merging.{AllBelow, region}
+use Rattle.snap.specs.Steps.{But}
+use Rattle.refusals.specs.declared.Refusal.TheVariants.{Room}
+use Rattle.refusals.proofs.Told.{number-positive, told_ok, told_err}
+use Rattle.geometry.specs.Coordinates.{node_count}
+use Rattle.mesh.specs.Lent.{lent}
+use Rattle.mesh.specs.Rings.{nodes_in}
+use Rattle.mesh.specs.declared.CellTally.{CellTally}
 use Rattle.mesh.proofs.CellWords.{words_low, few_nodes}
-use Rattle.welding.specs.Welding.{weld_refusal}
-use Rattle.welding.proofs.Answers.{Accepted, accepted, refusing, filling}
+use Rattle.welding.specs.Steps.{welded_over}
+use Rattle.welding.proofs.Answers.{row_mesh, row_map, row_scratch, unflagged, accepts_mesh, refusing, filling}
 use Rattle.welding.proofs.weld.Goals as goal
 
-pub returns-then-r-ne0 : goal.returns-then-r-ne0
-returns-then-r-ne0 c =
-    let model : Model = model_of c.args.coords.now c.args.kinds.now c.args.ends.now c.args.words.now c.args.tol 0 0 in
-    refusing model c.args.map.now c.args.scratch.now c.refuses-r.result c.refuses-r.ensures c.if-r-ne0.true
+-- the words from 2n to 3n
+third : (w : List ℕ) (n : ℕ) → take (n + n + n - (n + n)) (drop (n + n) w) ≡ region (n + n) n w
+third w n = let e : n + n + n - (n + n) ≡ n = omega arith in ap (λ (k : ℕ). take k (drop (n + n) w)) e
+
+pub returns-in_err-judge_mesh : goal.returns-in_err-judge_mesh
+returns-in_err-judge_mesh c =
+    let m = lent c.args.model.now in
+    let p = err_from_is_err_and c.from_residual.result c.from_residual.ensures.1 in
+    let e = c.in_err-judge_mesh.field-0.0 in
+    let n = told_err {A = CellTally} {B = Unit {0}} _ e _ _ c.in_err-judge_mesh.ensures.answered in
+    rw (p.1, p.2) (refusing m c.args.map.now c.args.scratch.now e (n ∙ sym (row_mesh m _ _ (λ z. omega (arith, number-positive e, n, z)))))
+
+pub returns-then-map-n : goal.returns-then-map-n
+returns-then-map-n c =
+    let m = lent c.args.model.now in
+    let z = told_ok {A = CellTally} {B = Unit {0}} _ c.in_ok-judge_mesh.field-0 _ _ c.in_ok-judge_mesh.ensures.answered in
+    let h : length c.args.map.now < node_count m.coords = omega arith in
+    refusing m c.args.map.now c.args.scratch.now Room (sym (row_map m _ _ z.0 h))
+
+pub returns-then-scratch-n : goal.returns-then-scratch-n
+returns-then-scratch-n c =
+    let m = lent c.args.model.now in
+    let z = told_ok {A = CellTally} {B = Unit {0}} _ c.in_ok-judge_mesh.field-0 _ _ c.in_ok-judge_mesh.ensures.answered in
+    let h : node_count m.coords ≤ length c.args.map.now = omega arith in
+    let k : length c.args.scratch.now < 3 * node_count m.coords = omega arith in
+    refusing m c.args.map.now c.args.scratch.now Room (sym (row_scratch m _ _ z.0 h k))
 
 pub weld_named-requires : goal.weld_named-requires
 weld_named-requires c =
-    let model : Model = model_of c.args.coords.now c.args.kinds.now c.args.ends.now c.args.words.now c.args.tol 0 0 in
-    let none : weld_refusal model c.args.map.now c.args.scratch.now ≡ 0 = sym c.refuses-r.ensures ∙ c.if-r-ne0.false in
-    let ok : Accepted model (length c.args.map.now) (length c.args.scratch.now) = accepted model refl (length c.args.map.now) (length c.args.scratch.now) none in
-    let m = model in
-    let k = ok in
-    let h = accepts m k.ok in
-    (refl, k.words, omega (arith, few_nodes m h), h.places, words_low m h)
-
-pub hand_over-requires : goal.hand_over-requires
-hand_over-requires c =
-    let model : Model = model_of c.args.coords.now c.args.kinds.now c.args.ends.now c.args.words.now c.args.tol 0 0 in
-    let none : weld_refusal model c.args.map.now c.args.scratch.now ≡ 0 = sym c.refuses-r.ensures ∙ c.if-r-ne0.false in
-    let ok : Accepted model (length c.args.map.now) (length c.args.scratch.now) = accepted model refl (length c.args.map.now) (length c.args.scratch.now) none in
-    let k = ok in (k.room, omega (arith, k.words, c.weld_named.auto.work))
-
-pub clear-requires : goal.clear-requires
-clear-requires c =
-    let model : Model = model_of c.args.coords.now c.args.kinds.now c.args.ends.now c.args.words.now c.args.tol 0 0 in
-    let none : weld_refusal model c.args.map.now c.args.scratch.now ≡ 0 = sym c.refuses-r.ensures ∙ c.if-r-ne0.false in
-    let ok : Accepted model (length c.args.map.now) (length c.args.scratch.now) = accepted model refl (length c.args.map.now) (length c.args.scratch.now) none in
-    let k = ok in omega (arith, k.words, c.weld_named.auto.work)
+    let m = lent c.args.model.now in
+    let z = told_ok {A = CellTally} {B = Unit {0}} _ c.in_ok-judge_mesh.field-0 _ _ c.in_ok-judge_mesh.ensures.answered in
+    let h = accepts_mesh m z.0 in
+    let few : node_count m.coords ≤ node_limit = few_nodes (unflagged m) h in
+    (c.node_count-n.ensures, omega arith, omega arith, h.places, subst (λ (n : ℕ). AllBelow n (nodes_in m.words)) (sym c.node_count-n.ensures) (words_low (unflagged m) h))
 
 pub returns : goal.returns
 returns c =
-    let model : Model = model_of c.args.coords.now c.args.kinds.now c.args.ends.now c.args.words.now c.args.tol 0 0 in
-    let none : weld_refusal model c.args.map.now c.args.scratch.now ≡ 0 = sym c.refuses-r.ensures ∙ c.if-r-ne0.false in
-    let ok : Accepted model (length c.args.map.now) (length c.args.scratch.now) = let s = c in
-    accepted model refl (length s.args.map.now) (length s.args.scratch.now) none in
+    let m = lent c.args.model.now in
+    let z = told_ok {A = CellTally} {B = Unit {0}} _ c.in_ok-judge_mesh.field-0 _ _ c.in_ok-judge_mesh.ensures.answered in
+    let room : node_count m.coords ≤ length c.args.map.now = omega arith in
+    let words : 3 * node_count m.coords ≤ length c.args.scratch.now = omega arith in
     let W = c.weld_named in
-    filling model c.args.map.now c.args.scratch.now _ W.new.work _ ok none W.auto.work W.ensures c.hand_over.ensures c.clear.ensures
+    let n = c.node_count-n.ensures in
+    filling m c.args.map.now c.args.scratch.now _ W.new.work _ z.0 room words W.auto.work
+    (subst (λ (k : ℕ). (region (k + k) k W.new.work ≡ welded_over m.coords m.tolerance m.words) × But 0 (k + k + k) c.args.scratch.now W.new.work) n W.ensures)
+    (ap (λ (l : List ℕ). l ++ drop c.node_count-n.result c.args.map.now) (c.copy_from_slice.ensures.after ∙ third W.new.work c.node_count-n.result)
+    ∙ ap (λ (k : ℕ). region (k + k) k W.new.work ++ drop k c.args.map.now) n)
+    (subst (λ (k : ℕ). c.clear.new.work ≡ sets W.new.work 0 (replicate (3 * k) 0)) n c.clear.ensures)
