@@ -17,11 +17,13 @@ use Rattle.mesh.specs.Acceptance.{model_refusal, check_table}
 use Rattle.findings.specs.Findings.{Rules, Finding}
 use Rattle.findings.specs.Rules.{rules_of, full_of}
 use Rattle.findings.specs.Records.{record_bytes, record_of, kept_of, kept_bytes}
-use Rattle.findings.specs.Check.{Totals, totals_of, check_refusal, check_told, Checking}
+use Rattle.std.specs.Prelude.{Result, Ok}
+use Rattle.refusals.specs.declared.Refusal.{Refusal}
+use Rattle.refusals.proofs.Told.{told_same}
+use Rattle.findings.specs.declared.Totals.{Totals}
+use Rattle.findings.specs.Check.{totals_of, check_refusal, Checking}
 use Rattle.findings.specs.Compared.{none, names_pair, with_cells, reordered}
 use Rattle.findings.specs.Demand3.{PartlyShared, Reordering, Reported}
-use Rattle.findings.specs.declared.CheckAnswer.{CheckAnswer}
-use Rattle.findings.specs.declared.CheckAnswer.TheVariants.{Refused, Report}
 use Rattle.findings.proofs.Models.{same_total, same_check, once}
 
 -- a record has 64 bytes
@@ -46,7 +48,7 @@ unfolding totals_of kept_of
 kept_fits m lent = omega arith
 
 -- so a check leaves as many bytes as were lent
-pub lent_length : (m : Model) (f f' w w' : List ℕ) (r : CheckAnswer) → Checking m f f' w w' r → length f' ≡ length f
+pub lent_length : (m : Model) (f f' w w' : List ℕ) (r : Result Totals Refusal) → Checking m f f' w w' r → length f' ≡ length f
 lent_length m f f' w w' r c = ap length c.memory.findings_are ∙ go (eqb (check_refusal m w) 0)
   where
     kept : List ℕ
@@ -57,30 +59,20 @@ lent_length m f f' w w' r c = ap length c.memory.findings_are ∙ go (eqb (check
     go false = refl
 
 -- a report is what it should be
-pub report_is : (m : Model) (findings findings' work work' : List ℕ) (t k : ℕ) → Checking m findings findings' work work' (Report t k) → Reported m findings findings' t k
+pub report_is : (m : Model) (findings findings' work work' : List ℕ) (t : Totals) → Checking m findings findings' work work' (Ok t) → Reported m findings findings' t.total t.kept
 unfolding totals_of kept_of kept_bytes
-report_is m findings findings' work work' t k c =
-    let total : Totals = record { total = t; kept = k } in
-    let p = answered_done (check_refusal m work) total (totals_of m (length findings)) c.answered in
-    let t-is : t ≡ length (full_of m) = ap (λ (x : Totals). x.total) p.1 in
-    let k-is : k ≡ (totals_of m (length findings)).kept = ap (λ (x : Totals). x.kept) p.1 in
+report_is m findings findings' work work' t c =
+    let p = answered_done (check_refusal m work) t (totals_of m (length findings)) c.answered in
+    let t-is : t.total ≡ length (full_of m) = ap (λ (x : Totals). x.total) p.1 in
+    let k-is : t.kept ≡ (totals_of m (length findings)).kept = ap (λ (x : Totals). x.kept) p.1 in
     record {
       total = t-is;
       kept = k-is ∙ ap (λ (x : ℕ). min m.cap (min x (length findings / 64))) (sym t-is);
       records = c.memory.findings_are ∙ rw (p.0, k-is);
     }
 
--- answers with the same number and values are the same
-pub told_same : (r s : CheckAnswer) → check_told r ≡ check_told s → r ≡ s
-told_same (Refused n) (Refused o) e = let q : n ≡ o = cc in ap Refused q
-told_same (Refused n) (Report t k) e = let z : ◌≡◌ {A = ℕ} 0 1 = cc in absurd (omega arith)
-told_same (Report t k) (Refused n) e = let z : ◌≡◌ {A = ℕ} 0 1 = cc in absurd (omega arith)
-told_same (Report t k) (Report u l) e =
-    let p = answered_done 0 (record { total = t; kept = k }) (record { total = u; kept = l }) e in
-    ap₂ (λ (x y : ℕ). Report x y) (ap (λ (x : Totals). x.total) p.1) (ap (λ (x : Totals). x.kept) p.1)
-
 -- an accepted model and its reordering are answered alike, for the same lent lengths
-pub same_answer : (m : Model) (σ f f' w w' g g' v v' : List ℕ) (r s : CheckAnswer) → model_refusal m ≡ 0 → Reordering m σ → length f ≡ length g → length w ≡ length v
+pub same_answer : (m : Model) (σ f f' w w' g g' v v' : List ℕ) (r s : Result Totals Refusal) → model_refusal m ≡ 0 → Reordering m σ → length f ≡ length g → length w ≡ length v
     → Checking m f f' w w' r → Checking (reordered σ m) g g' v v' s → s ≡ r
 unfolding totals_of reordered with_cells
 same_answer m σ f f' w w' g g' v v' r s e q lf lw c d =
@@ -93,15 +85,15 @@ same_answer m σ f f' w w' g g' v v' r s e q lf lw c d =
     totals most x l = record { total = x; kept = kept_of most x l }
 
 -- a report of nothing, with the topology check on: no two cells share partly
-pub none_shared : (m : Model) (f f' w w' : List ℕ) (k : ℕ) → Checking m f f' w w' (Report 0 k) → contains m.flags TOPOLOGY ≡ true
+pub none_shared : (m : Model) (f f' w w' : List ℕ) (t : Totals) → Checking m f f' w w' (Ok t) → t.total ≡ 0 → contains m.flags TOPOLOGY ≡ true
     → (i j : ℕ) → i ≢ j → i < length (cells_of m) → j < length (cells_of m) → PartlyShared (rules_of m) (get_or (cells_of m) i none) (get_or (cells_of m) j none) → ⊥
-none_shared m f f' w w' k c t i j d hi hj h =
-    omega (arith, (report_is m f f' w w' 0 k c).total, once m i j t d hi hj h, keep-length (names_pair i j) (full_of m))
+none_shared m f f' w w' t c z q i j d hi hj h =
+    omega (arith, (report_is m f f' w w' t c).total, once m i j q d hi hj h, keep-length (names_pair i j) (full_of m))
 
 -- a report that keeps all it counts has the record of every finding
-pub all_kept : (m : Model) (f f' w w' : List ℕ) (t : ℕ) → Checking m f f' w w' (Report t t)
+pub all_kept : (m : Model) (f f' w w' : List ℕ) (t : Totals) → Checking m f f' w w' (Ok t) → t.kept ≡ t.total
     → f' ≡ each (record_of (rules_of m)) (full_of m) ++ drop (length (each (record_of (rules_of m)) (full_of m))) f
-all_kept m f f' w w' t c =
-    let r = report_is m f f' w w' t t c in
-    let e : take t (full_of m) ≡ full_of m = ap (λ (n : ℕ). take n (full_of m)) r.total ∙ take-length (full_of m) in
+all_kept m f f' w w' t c z =
+    let r = report_is m f f' w w' t c in
+    let e : take t.kept (full_of m) ≡ full_of m = ap (λ (n : ℕ). take n (full_of m)) (z ∙ r.total) ∙ take-length (full_of m) in
     r.records ∙ rw e

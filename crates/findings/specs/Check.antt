@@ -1,29 +1,20 @@
 -- Checking a model: why it refuses, what it answers, and what the finding records and the work hold afterwards.
-use Rattle.std.specs.Prelude.{ℕ, List, ◌≡◌, length, replicate}
-use Rattle.laws.specs.Refusals.{Answer, refused, done, refusal, answer, filled}
+use Rattle.std.specs.Prelude.{ℕ, List, ◌≡◌, length, replicate, Result}
+use Rattle.laws.specs.Refusals.{refusal, answer, filled}
+use Rattle.refusals.specs.Told.{told}
+use Rattle.refusals.specs.declared.Refusal.{Refusal}
 use Rattle.mesh.specs.Model.{Model}
 use Rattle.mesh.specs.Acceptance.{work_needed, check_table}
 use Rattle.findings.specs.Rules.{rules_of, full_of}
 use Rattle.findings.specs.Records.{kept_of, kept_bytes}
-use Rattle.findings.specs.declared.CheckAnswer.{CheckAnswer}
-use Rattle.findings.specs.declared.CheckAnswer.TheVariants.{Refused, Report}
+use Rattle.findings.specs.declared.Totals.{Totals}
 
--- total: the full list's length; kept: how many of its records
-pub record Totals : Type 0 where
-  pub total : ℕ
-  pub kept : ℕ
-
--- where so many bytes are lent for findings
+-- total: the full list's length; kept: how many of its records, where so many bytes are lent for findings
 unfoldable pub totals_of : Model → ℕ → Totals
 totals_of m lent = record { total = length (full_of m); kept = kept_of m.cap (length (full_of m)) lent }
 
 abbrev pub check_refusal : Model → List ℕ → ℕ
 check_refusal m work = refusal (check_table m (length work))
-
--- the number and the values for each case of the enum
-abbrev pub check_told : CheckAnswer → Answer Totals
-check_told (Refused n) = refused n
-check_told (Report t k) = done (record { total = t; kept = k })
 
 -- What a check leaves in lent memory: the first k records in the findings; the needed words of work, which end zero.
 pub record CheckMemory (m : Model) (findings findings' work work' : List ℕ) : Type 0 where
@@ -31,6 +22,6 @@ pub record CheckMemory (m : Model) (findings findings' work work' : List ℕ) : 
   pub work_is : work' ≡ filled (check_refusal m work) (replicate (work_needed m) 0) work
 
 -- The check's promise: the answer, and lent memory.
-pub record Checking (m : Model) (findings findings' work work' : List ℕ) (r : CheckAnswer) : Type 0 where
-  pub answered : check_told r ≡ answer (check_refusal m work) (totals_of m (length findings))
+pub record Checking (m : Model) (findings findings' work work' : List ℕ) (r : Result Totals Refusal) : Type 0 where
+  pub answered : told r ≡ answer (check_refusal m work) (totals_of m (length findings))
   pub memory : CheckMemory m findings findings' work work'

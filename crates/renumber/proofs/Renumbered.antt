@@ -16,7 +16,9 @@ use Rattle.findings.specs.Findings.{Finding, bowtie, overfull, partly, repeated}
 use Rattle.findings.specs.Rules.{rules_of, full_of}
 use Rattle.findings.specs.Records.{fields_of, centre_in, record_bytes, record_of, kept_of, kept_bytes}
 use Rattle.findings.specs.Check.{Totals, totals_of, check_refusal, Checking}
-use Rattle.findings.specs.declared.CheckAnswer.{CheckAnswer}
+use Rattle.std.specs.Prelude.{Result, Ok}
+use Rattle.refusals.specs.declared.Refusal.{Refusal}
+use Rattle.findings.specs.declared.Totals.{Totals}
 use Rattle.findings.proofs.Kept.{told_same}
 use Rattle.findings.proofs.Moved.{check_refusal_lem}
 use Rattle.renumber.specs.Renumbering.{Used, Renumbering, renamed, renamed_fields, record_by}
@@ -100,7 +102,7 @@ passes m work e h = check_refusal_lem m _ (accepts m e) ∙ rw (le-ltb (length w
 
 -- "the report is the same with nodes renamed": with work long enough for both and as much room for findings, the check answers the same,
 -- and the lent bytes begin with the same records, their nodes renamed
-pub report_renumbered : (ρ : ℕ → ℕ) (m n : Model) (f f' w w' g g' v v' : List ℕ) (r s : CheckAnswer) → Renumbering ρ m n → model_refusal m ≡ 0
+pub report_renumbered : (ρ : ℕ → ℕ) (m n : Model) (f f' w w' g g' v v' : List ℕ) (r s : Result Totals Refusal) → Renumbering ρ m n → model_refusal m ≡ 0
     → length f ≡ length g → work_needed m ≤ length w → work_needed n ≤ length v → Checking m f f' w w' r → Checking n g g' v v' s
     → (s ≡ r)
     × (f' ≡ each (record_of (rules_of m)) (take (totals_of m (length f)).kept (full_of m))
