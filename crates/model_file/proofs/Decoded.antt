@@ -1,28 +1,31 @@
 -- What writing makes of what reading found in records that are not refused.
-use Prim.Native.Nat.{ℕ, suc, ◌+◌, ◌-◌, ◌/◌, ◌≤◌, ◌<◌}
+use Prim.Native.Nat.{ℕ, suc, ◌+◌, ◌-◌, ◌/◌, ◌≤◌}
 use mathlib.Core.Path.{◌≡◌, refl, sym, ap, ap₂, ◌∙◌, subst}
 use mathlib.Core.Logic.{◌⊎◌, inl, inr}
 use mathlib.Core.List.{List, [], ◌∷◌, ◌++◌, append_assoc, append-nil}
 use mathlib.Core.Bool.{Bool, true, false, cond, ◌&&◌}
 use native.Mathlib.Nat.{add-zero}
 use native.Mathlib.Omega.{arith}
+use Rattle.std.specs.Prelude.{Option, Some, None}
 use lib.ListN.{length, take, drop, length-append, drop_of_length-le}
 use lib.Seq.{take_at, drop_at, take_all}
 use lib.Dec.{eqb}
 use borrow.Author.Tests.{eqb-true, not-false}
 use Rattle.laws.proofs.Tests.{and_parts, clash}
 use Rattle.mesh.specs.Steps.{cell_with}
-use Rattle.model_file.specs.Records.{words_at, word_record, cell_record, more_record, letter, byte1, count, coords_in, kinds_in, words_in, ends_in, stage, words_right, record_off}
+use Rattle.model_file.specs.Records.{words_at, word_record, cell_record, more_record, letter, byte1, count, coords_in, kinds_in, words_in, ends_in, stage, in_nodes, after_full, ended, words_right, record_off}
 use Rattle.model_file.specs.Steps.{cells, judge}
 use Rattle.laws.specs.Lists.{All}
 use Rattle.model_file.specs.Held.{Byte}
 use Rattle.model_file.specs.File.{node_records, more_records, cell_records, coords_of, kinds_of, words_of, ends_of, opens, last_of}
 use Rattle.model_file.specs.declared.Letter.{Letter}
-use Rattle.model_file.specs.declared.Letter.TheVariants.{Node, Cell, More, Last, Other}
+use Rattle.model_file.specs.declared.Letter.TheVariants.{Node, Cell, More, Last}
+use Rattle.model_file.specs.declared.Stage.{Stage}
+use Rattle.model_file.specs.declared.Stage.TheVariants.{Nodes, Cells, Full}
 use Rattle.model_file.proofs.Numbers.{all_left, all_right}
 use Rattle.model_file.proofs.Fields.{length-words_at}
 use Rattle.model_file.proofs.Layouts.{Real, marked, node_back, word_back}
-use Rattle.model_file.proofs.Judgement.{passed, after_last, none_left, word_count, stage_lt, stage_pos}
+use Rattle.model_file.proofs.Judgement.{passed, after_last, none_left, word_count, stage_open, stage_cells}
 use Rattle.model_file.proofs.Chop.{Whole}
 
 -- the last record stays the last
@@ -74,7 +77,7 @@ more_join ws here g h c =
 -- ---- from within a cell on
 
 -- what is read from there on is written back
-pub record InCell (at s : ℕ) (rs : List (List ℕ)) : Type 0 where
+pub record InCell (at : ℕ) (s : Stage) (rs : List (List ℕ)) : Type 0 where
   -- the open cell's further words, those of the cells behind it, and those cells' ends
   pub here : List ℕ
   pub later : List ℕ
@@ -83,18 +86,18 @@ pub record InCell (at s : ℕ) (rs : List (List ℕ)) : Type 0 where
   pub no_coords : coords_of rs ≡ []
   pub words_are : words_of rs ≡ here ++ later
   pub ends_are_lem : ends_of true at rs ≡ (at + length here) ∷ ends
-  pub cut : (s ≡ 2) ⊎ (here ≡ [])
-  pub last_letter : letter (last_of rs) ≡ Last
-  pub last_good : record_off Last (last_of rs) ≡ false
+  pub cut : (after_full s ≡ true) ⊎ (here ≡ [])
+  pub last_letter : letter (last_of rs) ≡ Some Last
+  pub last_good : record_off (Some Last) (last_of rs) ≡ false
   pub back : more_records ((length here + 13) / 14) here ++ (cells (at + length here) (kinds_of rs) ends later ++ (last_of rs ∷ [])) ≡ rs
 
 -- the stage after a record says how its words are cut
-stage_cut : (r ws here : List ℕ) → length ws ≡ count r → (◌≡◌ {A = ℕ} (cond (eqb (count r) 14) 2 1) 2) ⊎ (here ≡ []) → Cut ws here
+stage_cut : (r ws here : List ℕ) → length ws ≡ count r → (after_full (cond (eqb (count r) 14) Full Cells) ≡ true) ⊎ (here ≡ []) → Cut ws here
 stage_cut r ws here l (inl e) = inl (l ∙ go (eqb (count r) 14) refl e)
   where
-    go : (b : Bool) → eqb (count r) 14 ≡ b → ◌≡◌ {A = ℕ} (cond b 2 1) 2 → count r ≡ 14
+    go : (b : Bool) → eqb (count r) 14 ≡ b → after_full (cond b Full Cells) ≡ true → count r ≡ 14
     go true q k = eqb-true (count r) 14 q
-    go false q k = absurd (omega arith)
+    go false q k = clash k refl
 stage_cut r ws here l (inr e) = inr e
 
 -- the first of the cells
@@ -104,8 +107,8 @@ cells_cons at e k ks es fr bk h =
     ap₂ (λ (a b : List ℕ). cell_records (cell_with k a) ++ cells e ks es b) (take_at fr bk (e - at) n) (drop_at fr bk (e - at) n)
 
 -- the cells from a record C on
-from_cell : (r : List ℕ) (rs : List (List ℕ)) (ws : List ℕ) (at : ℕ) → length r ≡ 32 → All Byte r → ws ≡ words_at (count r) (drop 4 r) → letter r ≡ Cell → record_off Cell r ≡ false
-    → (i : InCell (at + length ws) (stage Cell r) rs)
+from_cell : (r : List ℕ) (rs : List (List ℕ)) (ws : List ℕ) (at : ℕ) → length r ≡ 32 → All Byte r → ws ≡ words_at (count r) (drop 4 r) → letter r ≡ Some Cell → record_off (Some Cell) r ≡ false
+    → (i : InCell (at + length ws) (stage (Some Cell) r) rs)
     → cells at (byte1 r ∷ kinds_of rs) ((at + length ws + length i.here) ∷ i.ends) (ws ++ (i.here ++ i.later)) ++ (last_of rs ∷ []) ≡ r ∷ rs
 from_cell r rs ws at long each w e g i =
     let l : length ws ≡ count r = ap length w ∙ length-words_at (count r) (drop 4 r) in
@@ -115,46 +118,46 @@ from_cell r rs ws at long each w e g i =
     let rest = cells end (kinds_of rs) i.ends i.later in
     let ms = more_records ((length i.here + 13) / 14) i.here in
     let h : end ≡ at + length (ws ++ i.here) = omega (arith, length-append ws i.here) in
-    let c : cell_records (cell_with (byte1 r) (ws ++ i.here)) ≡ r ∷ ms = cell_join (byte1 r) ws i.here (omega arith) (stage_cut r ws i.here l i.cut) ∙ ap (λ (a : List ℕ). a ∷ ms) (ap (cell_record (byte1 r)) w ∙ word_back r long each 67 0 (marked r Cell e) good) in
+    let c : cell_records (cell_with (byte1 r) (ws ++ i.here)) ≡ r ∷ ms = cell_join (byte1 r) ws i.here (omega arith) (stage_cut r ws i.here l i.cut) ∙ ap (λ (a : List ℕ). a ∷ ms) (ap (cell_record (byte1 r)) w ∙ word_back r long each 67 0 (marked r (Some Cell) e) good) in
     ap (λ (a : List ℕ). cells at (byte1 r ∷ kinds_of rs) (end ∷ i.ends) a ++ (last_of rs ∷ [])) (sym (append_assoc ws i.here i.later))
     ∙ ap (λ (a : List (List ℕ)). a ++ (last_of rs ∷ [])) (cells_cons at end (byte1 r) (kinds_of rs) i.ends (ws ++ i.here) i.later h ∙ ap (λ (a : List (List ℕ)). a ++ rest) c)
     ∙ ap (λ (a : List (List ℕ)). r ∷ a) (append_assoc ms rest (last_of rs ∷ []) ∙ i.back)
 
 -- what the first record adds, by its letter
-module _ (r : List ℕ) (rs : List (List ℕ)) (l : Letter) (e : letter r ≡ l) where
+module _ (r : List ℕ) (rs : List (List ℕ)) (l : Option Letter) (e : letter r ≡ l) where
   pub coords_step : coords_of (r ∷ rs) ≡ coords_in l r ++ coords_of rs
-  coords_step = ap (λ (k : Letter). coords_in k r ++ coords_of rs) e
+  coords_step = ap (λ (k : Option Letter). coords_in k r ++ coords_of rs) e
 
   pub kinds_step : kinds_of (r ∷ rs) ≡ kinds_in l r ++ kinds_of rs
-  kinds_step = ap (λ (k : Letter). kinds_in k r ++ kinds_of rs) e
+  kinds_step = ap (λ (k : Option Letter). kinds_in k r ++ kinds_of rs) e
 
   pub words_step : words_of (r ∷ rs) ≡ words_in l r ++ words_of rs
-  words_step = ap (λ (k : Letter). words_in k r ++ words_of rs) e
+  words_step = ap (λ (k : Option Letter). words_in k r ++ words_of rs) e
 
   pub ends_step : (b : Bool) (at : ℕ) → ends_of b at (r ∷ rs) ≡ ends_in l b at ++ ends_of (opens l b) (at + length (words_in l r)) rs
-  ends_step b at = ap (λ (k : Letter). ends_in k b at ++ ends_of (opens k b) (at + length (words_in k r)) rs) e
+  ends_step b at = ap (λ (k : Option Letter). ends_in k b at ++ ends_of (opens k b) (at + length (words_in k r)) rs) e
 
 -- T ends the cell
-in_last : (at s : ℕ) (r : List ℕ) (rs : List (List ℕ)) → letter r ≡ Last → record_off Last r ≡ false → rs ≡ [] → InCell at s (r ∷ rs)
+in_last : (at : ℕ) (s : Stage) (r : List ℕ) (rs : List (List ℕ)) → letter r ≡ Some Last → record_off (Some Last) r ≡ false → rs ≡ [] → InCell at s (r ∷ rs)
 in_last at s r [] e g n =
     record {
       here = [];
       later = [];
       ends = [];
       some = omega arith;
-      no_coords = coords_step r [] Last e;
-      words_are = words_step r [] Last e;
-      ends_are_lem = ends_step r [] Last e true at ∙ ap (λ (m : ℕ). m ∷ []) (sym (add-zero at));
+      no_coords = coords_step r [] (Some Last) e;
+      words_are = words_step r [] (Some Last) e;
+      ends_are_lem = ends_step r [] (Some Last) e true at ∙ ap (λ (m : ℕ). m ∷ []) (sym (add-zero at));
       cut = inr refl;
       last_letter = e;
       last_good = g;
-      back = ap (λ (ks : List ℕ). cells (at + 0) ks [] [] ++ (r ∷ [])) (kinds_step r [] Last e);
+      back = ap (λ (ks : List ℕ). cells (at + 0) ks [] [] ++ (r ∷ [])) (kinds_step r [] (Some Last) e);
     }
 in_last at s r (q ∷ rs) e g n = absurd (let z = ap length n in omega arith)
 
 -- a C ends the cell and begins the next
-in_cell : (at s : ℕ) (r : List ℕ) (rs : List (List ℕ)) → length r ≡ 32 → All Byte r → letter r ≡ Cell → record_off Cell r ≡ false
-    → InCell (at + length (words_at (count r) (drop 4 r))) (stage Cell r) rs → InCell at s (r ∷ rs)
+in_cell : (at : ℕ) (s : Stage) (r : List ℕ) (rs : List (List ℕ)) → length r ≡ 32 → All Byte r → letter r ≡ Some Cell → record_off (Some Cell) r ≡ false
+    → InCell (at + length (words_at (count r) (drop 4 r))) (stage (Some Cell) r) rs → InCell at s (r ∷ rs)
 in_cell at s r rs long each e g i =
     let ws = words_at (count r) (drop 4 r) in
     let t = last_cons r rs i.some in
@@ -165,19 +168,19 @@ in_cell at s r rs long each e g i =
       later = later;
       ends = ends;
       some = omega arith;
-      no_coords = coords_step r rs Cell e ∙ i.no_coords;
-      words_are = words_step r rs Cell e ∙ ap (λ (a : List ℕ). ws ++ a) i.words_are;
-      ends_are_lem = ends_step r rs Cell e true at ∙ ap₂ (λ (m : ℕ) (a : List ℕ). m ∷ a) (sym (add-zero at)) i.ends_are_lem;
+      no_coords = coords_step r rs (Some Cell) e ∙ i.no_coords;
+      words_are = words_step r rs (Some Cell) e ∙ ap (λ (a : List ℕ). ws ++ a) i.words_are;
+      ends_are_lem = ends_step r rs (Some Cell) e true at ∙ ap₂ (λ (m : ℕ) (a : List ℕ). m ∷ a) (sym (add-zero at)) i.ends_are_lem;
       cut = inr refl;
       last_letter = ap letter t ∙ i.last_letter;
-      last_good = ap (record_off Last) t ∙ i.last_good;
-      back = (λ k. cells (add-zero at k) (kinds_step r rs Cell e k) ends later ++ (t k ∷ [])) ∙ from_cell r rs ws at long each refl e g i;
+      last_good = ap (record_off (Some Last)) t ∙ i.last_good;
+      back = (λ k. cells (add-zero at k) (kinds_step r rs (Some Cell) e k) ends later ++ (t k ∷ [])) ∙ from_cell r rs ws at long each refl e g i;
     }
 
 -- a K goes on
-in_more : (at s : ℕ) (r : List ℕ) (rs : List (List ℕ)) → length r ≡ 32 → All Byte r → letter r ≡ More → record_off More r ≡ false → s ≡ 2
-    → InCell (at + length (words_at (count r) (drop 4 r))) (stage More r) rs → InCell at s (r ∷ rs)
-in_more at s r rs long each e g two i =
+in_more : (at : ℕ) (s : Stage) (r : List ℕ) (rs : List (List ℕ)) → length r ≡ 32 → All Byte r → letter r ≡ Some More → record_off (Some More) r ≡ false → after_full s ≡ true
+    → InCell (at + length (words_at (count r) (drop 4 r))) (stage (Some More) r) rs → InCell at s (r ∷ rs)
+in_more at s r rs long each e g full i =
     let ws = words_at (count r) (drop 4 r) in
     let z = and_parts (eqb (byte1 r) 0) (words_right 1 r) (not-false (eqb (byte1 r) 0 && words_right 1 r) g) in
     let n = word_count 1 r z.1 in
@@ -186,97 +189,97 @@ in_more at s r rs long each e g two i =
     let here : List ℕ = ws ++ i.here in
     let ms = more_records ((length i.here + 13) / 14) i.here in
     let q : at + length ws + length i.here ≡ at + length (ws ++ i.here) = omega (arith, length-append ws i.here) in
-    let m : more_record ws ≡ r = ap (λ (k : ℕ). word_record 75 k ws) (sym (eqb-true (byte1 r) 0 z.0)) ∙ word_back r long each 75 1 (marked r More e) z.1 in
+    let m : more_record ws ≡ r = ap (λ (k : ℕ). word_record 75 k ws) (sym (eqb-true (byte1 r) 0 z.0)) ∙ word_back r long each 75 1 (marked r (Some More) e) z.1 in
     record {
       here = here;
       later = i.later;
       ends = i.ends;
       some = omega arith;
-      no_coords = coords_step r rs More e ∙ i.no_coords;
-      words_are = words_step r rs More e ∙ ap (λ (a : List ℕ). ws ++ a) i.words_are ∙ sym (append_assoc ws i.here i.later);
-      ends_are_lem = ends_step r rs More e true at ∙ i.ends_are_lem ∙ ap (λ (x : ℕ). x ∷ i.ends) q;
-      cut = inl two;
+      no_coords = coords_step r rs (Some More) e ∙ i.no_coords;
+      words_are = words_step r rs (Some More) e ∙ ap (λ (a : List ℕ). ws ++ a) i.words_are ∙ sym (append_assoc ws i.here i.later);
+      ends_are_lem = ends_step r rs (Some More) e true at ∙ i.ends_are_lem ∙ ap (λ (x : ℕ). x ∷ i.ends) q;
+      cut = inl full;
       last_letter = ap letter t ∙ i.last_letter;
-      last_good = ap (record_off Last) t ∙ i.last_good;
+      last_good = ap (record_off (Some Last)) t ∙ i.last_good;
       back =
-          (λ k. more_records ((length here + 13) / 14) here ++ (cells (sym q k) (kinds_step r rs More e k) i.ends i.later ++ (t k ∷ [])))
+          (λ k. more_records ((length here + 13) / 14) here ++ (cells (sym q k) (kinds_step r rs (Some More) e k) i.ends i.later ++ (t k ∷ [])))
           ∙ ap (λ (a : List (List ℕ)). a ++ (cells (at + length ws + length i.here) (kinds_of rs) i.ends i.later ++ (last_of rs ∷ []))) (more_join ws i.here (omega arith) (omega arith) (stage_cut r ws i.here l i.cut) ∙ ap (λ (a : List ℕ). a ∷ ms) m)
           ∙ ap (λ (a : List (List ℕ)). r ∷ a) i.back;
     }
 
 -- whatever follows
-pub in_cells : (rs : List (List ℕ)) (at s : ℕ) → All Whole rs → All (All Byte) rs → 1 ≤ s → s < 3 → judge s rs ≡ 0 → InCell at s rs
-in_cells [] at s w b p lt j = absurd (none_left s lt j)
-in_cells (r ∷ rs) at s w b p lt j = go (letter r) refl (λ n t q u k. in_cells rs n t w.1 b.1 q u k)
+pub in_cells : (rs : List (List ℕ)) (at : ℕ) (s : Stage) → All Whole rs → All (All Byte) rs → in_nodes s ≡ false → ended s ≡ false → judge s rs ≡ 0 → InCell at s rs
+in_cells [] at s w b p o j = absurd (none_left s o j)
+in_cells (r ∷ rs) at s w b p o j = go (letter r) refl (λ n t q u k. in_cells rs n t w.1 b.1 q u k)
   where
-    go : (l : Letter) → letter r ≡ l → ((n t : ℕ) → 1 ≤ t → t < 3 → judge t rs ≡ 0 → InCell n t rs) → InCell at s (r ∷ rs)
-    go Node e ih = absurd (let q = eqb-true s 0 (not-false (eqb s 0) (passed s r rs Node e j).place) in omega arith)
-    go Other e ih = clash refl (passed s r rs Other e j).place
-    go Last e ih = let h = passed s r rs Last e j in in_last at s r rs e h.good (after_last rs h.rest)
-    go Cell e ih = let h = passed s r rs Cell e j in in_cell at s r rs w.0 b.0 e h.good (ih _ (stage Cell r) (stage_pos (count r)) (stage_lt (count r)) h.rest)
-    go More e ih = let h = passed s r rs More e j in in_more at s r rs w.0 b.0 e h.good (eqb-true s 2 (not-false (eqb s 2) h.place)) (ih _ (stage More r) (stage_pos (count r)) (stage_lt (count r)) h.rest)
+    go : (l : Option Letter) → letter r ≡ l → ((n : ℕ) (t : Stage) → in_nodes t ≡ false → ended t ≡ false → judge t rs ≡ 0 → InCell n t rs) → InCell at s (r ∷ rs)
+    go (Some Node) e ih = clash (not-false (in_nodes s) (passed s r rs (Some Node) e j).place) p
+    go None e ih = clash refl (passed s r rs None e j).place
+    go (Some Last) e ih = let h = passed s r rs (Some Last) e j in in_last at s r rs e h.good (after_last rs h.rest)
+    go (Some Cell) e ih = let h = passed s r rs (Some Cell) e j in in_cell at s r rs w.0 b.0 e h.good (ih _ (stage (Some Cell) r) (stage_cells (count r)) (stage_open (count r)) h.rest)
+    go (Some More) e ih = let h = passed s r rs (Some More) e j in in_more at s r rs w.0 b.0 e h.good (not-false (after_full s) h.place) (ih _ (stage (Some More) r) (stage_cells (count r)) (stage_open (count r)) h.rest)
 
 -- ---- from the start
 
 -- what is read from the start is written back
 pub record Start (rs : List (List ℕ)) : Type 0 where
   pub some : 1 ≤ length rs
-  pub last_letter : letter (last_of rs) ≡ Last
-  pub last_good : record_off Last (last_of rs) ≡ false
+  pub last_letter : letter (last_of rs) ≡ Some Last
+  pub last_good : record_off (Some Last) (last_of rs) ≡ false
   pub back : node_records (coords_of rs) ++ (cells 0 (kinds_of rs) (ends_of false 0 rs) (words_of rs) ++ (last_of rs ∷ [])) ≡ rs
 
 -- T alone
-start_last : (r : List ℕ) (rs : List (List ℕ)) → letter r ≡ Last → record_off Last r ≡ false → rs ≡ [] → Start (r ∷ rs)
+start_last : (r : List ℕ) (rs : List (List ℕ)) → letter r ≡ Some Last → record_off (Some Last) r ≡ false → rs ≡ [] → Start (r ∷ rs)
 start_last r [] e g n =
     record {
       some = omega arith;
       last_letter = e;
       last_good = g;
-      back = λ k. node_records (coords_step r [] Last e k) ++ (cells 0 (kinds_step r [] Last e k) (ends_step r [] Last e false 0 k) (words_step r [] Last e k) ++ (r ∷ []));
+      back = λ k. node_records (coords_step r [] (Some Last) e k) ++ (cells 0 (kinds_step r [] (Some Last) e k) (ends_step r [] (Some Last) e false 0 k) (words_step r [] (Some Last) e k) ++ (r ∷ []));
     }
 start_last r (q ∷ rs) e g n = absurd (let z = ap length n in omega arith)
 
 -- the first cell
-start_cell : (r : List ℕ) (rs : List (List ℕ)) → length r ≡ 32 → All Byte r → letter r ≡ Cell → record_off Cell r ≡ false
-    → InCell (0 + length (words_at (count r) (drop 4 r))) (stage Cell r) rs → Start (r ∷ rs)
+start_cell : (r : List ℕ) (rs : List (List ℕ)) → length r ≡ 32 → All Byte r → letter r ≡ Some Cell → record_off (Some Cell) r ≡ false
+    → InCell (0 + length (words_at (count r) (drop 4 r))) (stage (Some Cell) r) rs → Start (r ∷ rs)
 start_cell r rs long each e g i =
     let ws = words_at (count r) (drop 4 r) in
     let t = last_cons r rs i.some in
     record {
       some = omega arith;
       last_letter = ap letter t ∙ i.last_letter;
-      last_good = ap (record_off Last) t ∙ i.last_good;
+      last_good = ap (record_off (Some Last)) t ∙ i.last_good;
       back =
           (λ k.
-          node_records ((coords_step r rs Cell e ∙ i.no_coords) k)
-          ++ (cells 0 (kinds_step r rs Cell e k) ((ends_step r rs Cell e false 0 ∙ i.ends_are_lem) k) ((words_step r rs Cell e ∙ ap (λ (a : List ℕ). ws ++ a) i.words_are) k) ++ (t k ∷ [])))
+          node_records ((coords_step r rs (Some Cell) e ∙ i.no_coords) k)
+          ++ (cells 0 (kinds_step r rs (Some Cell) e k) ((ends_step r rs (Some Cell) e false 0 ∙ i.ends_are_lem) k) ((words_step r rs (Some Cell) e ∙ ap (λ (a : List ℕ). ws ++ a) i.words_are) k) ++ (t k ∷ [])))
           ∙ from_cell r rs ws 0 long each refl e g i;
     }
 
 -- a node
-start_node : (r : List ℕ) (rs : List (List ℕ)) → length r ≡ 32 → All Byte r → letter r ≡ Node → record_off Node r ≡ false → All Real (coords_in Node r) → Start rs → Start (r ∷ rs)
+start_node : (r : List ℕ) (rs : List (List ℕ)) → length r ≡ 32 → All Byte r → letter r ≡ Some Node → record_off (Some Node) r ≡ false → All Real (coords_in (Some Node) r) → Start rs → Start (r ∷ rs)
 start_node r rs long each e g h i =
     let t = last_cons r rs i.some in
     record {
       some = omega arith;
       last_letter = ap letter t ∙ i.last_letter;
-      last_good = ap (record_off Last) t ∙ i.last_good;
+      last_good = ap (record_off (Some Last)) t ∙ i.last_good;
       back =
-          (λ k. node_records (coords_step r rs Node e k) ++ (cells 0 (kinds_step r rs Node e k) (ends_step r rs Node e false 0 k) (words_step r rs Node e k) ++ (t k ∷ [])))
+          (λ k. node_records (coords_step r rs (Some Node) e k) ++ (cells 0 (kinds_step r rs (Some Node) e k) (ends_step r rs (Some Node) e false 0 k) (words_step r rs (Some Node) e k) ++ (t k ∷ [])))
           ∙ ap₂ (λ (a : List ℕ) (b : List (List ℕ)). a ∷ b) (node_back r long each e g h) i.back;
     }
 
 -- whatever stands there
-pub start : (rs : List (List ℕ)) → All Whole rs → All (All Byte) rs → All Real (coords_of rs) → judge 0 rs ≡ 0 → Start rs
+pub start : (rs : List (List ℕ)) → All Whole rs → All (All Byte) rs → All Real (coords_of rs) → judge Nodes rs ≡ 0 → Start rs
 start [] w b h j = absurd (omega arith)
 start (r ∷ rs) w b h j = go (letter r) refl (λ x k. start rs w.1 b.1 x k)
   where
-    go : (l : Letter) → letter r ≡ l → (All Real (coords_of rs) → judge 0 rs ≡ 0 → Start rs) → Start (r ∷ rs)
-    go Node e ih =
-        let p = passed 0 r rs Node e j in
-        let a : All Real (coords_in Node r ++ coords_of rs) = subst (All Real) (coords_step r rs Node e) h in
-        start_node r rs w.0 b.0 e p.good (all_left Real (coords_in Node r) (coords_of rs) a) (ih (all_right Real (coords_in Node r) (coords_of rs) a) p.rest)
-    go Other e ih = clash refl (passed 0 r rs Other e j).place
-    go More e ih = clash refl (passed 0 r rs More e j).place
-    go Last e ih = let p = passed 0 r rs Last e j in start_last r rs e p.good (after_last rs p.rest)
-    go Cell e ih = let p = passed 0 r rs Cell e j in start_cell r rs w.0 b.0 e p.good (in_cells rs _ (stage Cell r) w.1 b.1 (stage_pos (count r)) (stage_lt (count r)) p.rest)
+    go : (l : Option Letter) → letter r ≡ l → (All Real (coords_of rs) → judge Nodes rs ≡ 0 → Start rs) → Start (r ∷ rs)
+    go (Some Node) e ih =
+        let p = passed Nodes r rs (Some Node) e j in
+        let a : All Real (coords_in (Some Node) r ++ coords_of rs) = subst (All Real) (coords_step r rs (Some Node) e) h in
+        start_node r rs w.0 b.0 e p.good (all_left Real (coords_in (Some Node) r) (coords_of rs) a) (ih (all_right Real (coords_in (Some Node) r) (coords_of rs) a) p.rest)
+    go None e ih = clash refl (passed Nodes r rs None e j).place
+    go (Some More) e ih = clash refl (passed Nodes r rs (Some More) e j).place
+    go (Some Last) e ih = let p = passed Nodes r rs (Some Last) e j in start_last r rs e p.good (after_last rs p.rest)
+    go (Some Cell) e ih = let p = passed Nodes r rs (Some Cell) e j in start_cell r rs w.0 b.0 e p.good (in_cells rs _ (stage (Some Cell) r) w.1 b.1 (stage_cells (count r)) (stage_open (count r)) p.rest)

@@ -9,24 +9,26 @@ use lib.ListN.{length, take, drop, replicate, length-append, length-take, length
 use lib.Seq.{length-take-le}
 use lib.Dec.{eqb, ltb}
 use lib.Ieee.{Float}
-use borrow.Author.Tests.{eq-eqb, lt-ltb, eqb-true, ltb-false, not-false}
+use borrow.Author.Tests.{eq-eqb, eqb-true, ltb-false, not-false}
 use Rattle.laws.specs.Lists.{only_if, All}
 use Rattle.laws.proofs.Tests.{or_none}
 use Rattle.mesh.specs.Acceptance.{ends_off}
 use Rattle.mesh.specs.Steps.{cell_with}
 use Rattle.mesh.proofs.Ends.{ends_most}
-use Rattle.model_file.specs.Records.{last_record}
+use Rattle.model_file.specs.Records.{last_record, after_full, ended}
 use Rattle.model_file.specs.File.{node_records, more_records, cell_records, coords_of, kinds_of, words_of, ends_of}
 use Rattle.model_file.specs.Steps.{cells, judge}
 use Rattle.model_file.specs.Held.{Fits}
 use Rattle.model_file.proofs.Numbers.{all_take, all_drop}
-use Rattle.model_file.proofs.Judgement.{stage_lt}
+use Rattle.model_file.specs.declared.Stage.{Stage}
+use Rattle.model_file.specs.declared.Stage.TheVariants.{Nodes, Cells, Full}
+use Rattle.model_file.proofs.Judgement.{stage_open}
 use Rattle.model_file.proofs.Fields.{Word, words_bytes}
 use Rattle.model_file.proofs.Layouts.{node_coords_lem, word_right}
 
 -- records that are right after any record of the cells, and after the nodes
 abbrev pub Follows : List (List ℕ) → Type 0
-Follows rs = (s : ℕ) → s < 3 → judge s rs ≡ 0
+Follows rs = (s : Stage) → ended s ≡ false → judge s rs ≡ 0
 
 -- ---- nodes
 
@@ -36,7 +38,7 @@ pub record NodesRead (cs : List Float) (rs : List (List ℕ)) : Type 0 where
   pub kinds : kinds_of (node_records cs ++ rs) ≡ kinds_of rs
   pub words : words_of (node_records cs ++ rs) ≡ words_of rs
   pub ends : ends_of false 0 (node_records cs ++ rs) ≡ ends_of false 0 rs
-  pub judged : judge 0 (node_records cs ++ rs) ≡ judge 0 rs
+  pub judged : judge Nodes (node_records cs ++ rs) ≡ judge Nodes rs
 
 -- three coordinates less
 three : (n : ℕ) → suc (suc (suc n)) % 3 ≡ 0 → n % 3 ≡ 0
@@ -69,10 +71,10 @@ pub record MoresRead (n : ℕ) (ws : List ℕ) (rs : List (List ℕ)) : Type 0 w
   pub kinds : kinds_of (more_records n ws ++ rs) ≡ kinds_of rs
   pub words : words_of (more_records n ws ++ rs) ≡ ws ++ words_of rs
   pub ends : (at : ℕ) → ends_of true at (more_records n ws ++ rs) ≡ ends_of true (at + length ws) rs
-  pub judged : (s : ℕ) → s < 3 → (1 ≤ n → s ≡ 2) → judge s (more_records n ws ++ rs) ≡ 0
+  pub judged : (s : Stage) → ended s ≡ false → (1 ≤ n → after_full s ≡ true) → judge s (more_records n ws ++ rs) ≡ 0
 
 -- the stage after a full record
-stage_full : (c : ℕ) → c ≡ 14 → ◌≡◌ {A = ℕ} (cond (eqb c 14) 2 1) 2
+stage_full : (c : ℕ) → c ≡ 14 → after_full (cond (eqb c 14) Full Cells) ≡ true
 stage_full c e = rw (eq-eqb c 14 e)
 
 -- a first record's words, and the rest
@@ -100,9 +102,9 @@ mores_read (suc n) ws rs h k f =
       kinds = i.kinds;
       words = ap₂ (λ (s t : List ℕ). s ++ t) w i.words ∙ sym (append_assoc fr bk (words_of rs)) ∙ ap (λ (t : List ℕ). t ++ words_of rs) (take-append-drop 14 ws);
       ends = λ at. rw w (i.ends (at + length fr) ∙ ap (λ (m : ℕ). ends_of true m rs) (let e = split ws in omega arith));
-      judged = λ s l full.
-          (let e : s ≡ 2 = full (omega arith) in
-          rw (e, word_right 75 0 fr lf 1 (omega arith)) (i.judged (cond (eqb (length fr) 14) 2 1) (stage_lt (length fr)) (λ more. stage_full (length fr) (omega arith))));
+      judged = λ s u full.
+          (let e : after_full s ≡ true = full (omega arith) in
+          rw (e, word_right 75 0 fr lf 1 (omega arith)) (i.judged (cond (eqb (length fr) 14) Full Cells) (stage_open (length fr)) (λ more. stage_full (length fr) (omega arith))));
     }
 
 -- ---- a cell
@@ -131,7 +133,7 @@ cell_read k ws rs h f =
       kinds = ap (λ (t : List ℕ). k ∷ t) i.kinds;
       words = ap₂ (λ (s t : List ℕ). s ++ t) w i.words ∙ sym (append_assoc fr bk (words_of rs)) ∙ ap (λ (t : List ℕ). t ++ words_of rs) (take-append-drop 14 ws);
       ends = λ b at. rw w (ap (λ (t : List ℕ). only_if b (at ∷ []) ++ t) (i.ends (at + length fr) ∙ ap (λ (m : ℕ). ends_of true m rs) (let e = split ws in omega arith)));
-      judged = λ s l. rw (lt-ltb s 3 l, word_right 67 k fr lf 0 (omega arith)) (i.judged (cond (eqb (length fr) 14) 2 1) (stage_lt (length fr)) (λ more. stage_full (length fr) (omega arith)));
+      judged = λ s u. rw (u, word_right 67 k fr lf 0 (omega arith)) (i.judged (cond (eqb (length fr) 14) Full Cells) (stage_open (length fr)) (λ more. stage_full (length fr) (omega arith)));
     }
 
 -- ---- the cells, up to the last record
@@ -147,7 +149,7 @@ pub record CellsRead (at : ℕ) (ks es ws : List ℕ) (t : List ℕ) : Type 0 wh
 -- they are read back
 module _ (flags cap : ℕ) (tolerance : Float) where
   pub cells_read : (at : ℕ) (ks es ws : List ℕ) → length ks ≡ length es → ends_off at es (at + length ws) ≡ false → All Word ws → CellsRead at ks es ws (last_record flags cap tolerance)
-  cells_read at [] [] [] l a h = record { coords = refl; kinds = refl; words = refl; ends = λ b. refl; judged = λ s lt. rw (lt-ltb s 3 lt) }
+  cells_read at [] [] [] l a h = record { coords = refl; kinds = refl; words = refl; ends = λ b. refl; judged = λ s u. rw u }
   cells_read at [] [] (w ∷ ws) l a h = absurd (omega (arith, eqb-true at (at + length (w ∷ ws)) (not-false (eqb at (at + length (w ∷ ws))) a)))
   cells_read at [] (e ∷ es) ws l a h = absurd (omega arith)
   cells_read at (k ∷ ks) [] ws l a h = absurd (omega arith)
@@ -175,5 +177,5 @@ module _ (flags cap : ℕ) (tolerance : Float) where
             ap (ends_of b at) re
             ∙ c.ends b at
             ∙ ap (λ (s : List ℕ). only_if b (at ∷ []) ++ s) (ap (λ (x : ℕ). ends_of true x (cells e ks es bk ++ t)) q ∙ i.ends true);
-        judged = λ s lt3. ap (judge s) re ∙ c.judged s lt3;
+        judged = λ s u. ap (judge s) re ∙ c.judged s u;
       }

@@ -1,26 +1,29 @@
 -- What it says of records that their table refuses nothing.
-use Prim.Native.Nat.{ℕ, ◌≤◌, ◌<◌}
+use Prim.Native.Nat.{ℕ, ◌≤◌}
 use mathlib.Core.Path.{◌≡◌, refl, subst}
-use mathlib.Core.Bool.{Bool, true, false, cond, not}
+use mathlib.Core.Bool.{Bool, true, false, cond}
+use Rattle.std.specs.Prelude.{Option, Some, None}
 use mathlib.Core.List.{List, [], ◌∷◌}
 use native.Mathlib.Omega.{arith}
 use lib.Dec.{eqb, leb}
-use borrow.Author.Tests.{eqb-true, leb-true}
+use borrow.Author.Tests.{leb-true}
 use Rattle.laws.proofs.Tests.{and_parts, clash}
 use Rattle.laws.proofs.Tables.{Numbered}
-use Rattle.model_file.specs.Records.{letter, count, stage, misplaced, words_right, record_off}
+use Rattle.model_file.specs.Records.{letter, count, stage, in_nodes, ended, misplaced, words_right, record_off}
 use Rattle.model_file.specs.File.{records_table}
 use Rattle.model_file.specs.Steps.{judge}
 use Rattle.model_file.specs.declared.Letter.{Letter}
-use Rattle.model_file.specs.declared.Letter.TheVariants.{Node, Cell, More, Last, Other}
+use Rattle.model_file.specs.declared.Letter.TheVariants.{Node, Cell, More, Last}
+use Rattle.model_file.specs.declared.Stage.{Stage}
+use Rattle.model_file.specs.declared.Stage.TheVariants.{Cells, Full, Done}
 
 -- every number of the records' table is a refusal's
-pub records_numbered : (s : ℕ) (rs : List (List ℕ)) → Numbered (records_table s rs)
+pub records_numbered : (s : Stage) (rs : List (List ℕ)) → Numbered (records_table s rs)
 records_numbered s [] = (λ e. omega arith, tt)
 records_numbered s (r ∷ rs) = (λ e. omega arith, (λ e. omega arith, records_numbered (stage (letter r) r) rs))
 
 -- the first record passes, and so do the rest
-pub record Passed (s : ℕ) (r : List ℕ) (rs : List (List ℕ)) (l : Letter) : Type 0 where
+pub record Passed (s : Stage) (r : List ℕ) (rs : List (List ℕ)) (l : Option Letter) : Type 0 where
   pub place : misplaced s l ≡ false
   pub good : record_off l r ≡ false
   pub rest : judge (stage l r) rs ≡ 0
@@ -32,31 +35,27 @@ two_rows true q n e = absurd (omega arith)
 two_rows false true n e = absurd (omega arith)
 
 -- a record of a known letter in front of others
-pub passed : (s : ℕ) (r : List ℕ) (rs : List (List ℕ)) (l : Letter) → letter r ≡ l → judge s (r ∷ rs) ≡ 0 → Passed s r rs l
+pub passed : (s : Stage) (r : List ℕ) (rs : List (List ℕ)) (l : Option Letter) → letter r ≡ l → judge s (r ∷ rs) ≡ 0 → Passed s r rs l
 passed s r rs l e h =
     let p = two_rows (misplaced s (letter r)) (record_off (letter r) r) (judge (stage (letter r) r) rs) h in
-    subst (λ (k : Letter). Passed s r rs k) e (record { place = p.0; good = p.1.0; rest = p.1.1 })
+    subst (λ (k : Option Letter). Passed s r rs k) e (record { place = p.0; good = p.1.0; rest = p.1.1 })
 
 -- after T every letter is misplaced
-misplaced_all : (l : Letter) → misplaced 3 l ≡ true
-misplaced_all Node = refl
-misplaced_all Cell = refl
-misplaced_all More = refl
-misplaced_all Last = refl
-misplaced_all Other = refl
+misplaced_all : (l : Option Letter) → misplaced Done l ≡ true
+misplaced_all (Some Node) = refl
+misplaced_all (Some Cell) = refl
+misplaced_all (Some More) = refl
+misplaced_all (Some Last) = refl
+misplaced_all None = refl
 
 -- nothing follows T
-pub after_last : (rs : List (List ℕ)) → judge 3 rs ≡ 0 → rs ≡ []
+pub after_last : (rs : List (List ℕ)) → judge Done rs ≡ 0 → rs ≡ []
 after_last [] h = refl
-after_last (r ∷ rs) h = clash (misplaced_all (letter r)) (passed 3 r rs (letter r) refl h).place
+after_last (r ∷ rs) h = clash (misplaced_all (letter r)) (passed Done r rs (letter r) refl h).place
 
 -- T does not lack
-pub none_left : (s : ℕ) → s < 3 → judge s [] ≡ 0 → ⊥
-none_left s lt h = go (eqb s 3) refl h
-  where
-    go : (b : Bool) → eqb s 3 ≡ b → ◌≡◌ {A = ℕ} (cond (not b) 2 0) 0 → ⊥
-    go true e k = let q = eqb-true s 3 e in omega arith
-    go false e k = omega arith
+pub none_left : (s : Stage) → ended s ≡ false → judge s [] ≡ 0 → ⊥
+none_left s u h = omega (arith, rw u at h)
 
 -- a record's word count
 pub word_count : (least : ℕ) (r : List ℕ) → words_right least r ≡ true → (least ≤ count r) × (count r ≤ 14)
@@ -65,17 +64,17 @@ word_count least r g =
     let q = and_parts (leb (count r) 14) _ p.1 in
     (leb-true least (count r) p.0, leb-true (count r) 14 q.0)
 
--- the stage after a cell's record: 1, or 2 where it is full
-pub stage_lt : (c : ℕ) → cond (eqb c 14) 2 1 < 3
-stage_lt c = go (eqb c 14)
+-- the stage after a cell's record: full or not, T does not stand before, and not only nodes do
+pub stage_open : (c : ℕ) → ended (cond (eqb c 14) Full Cells) ≡ false
+stage_open c = go (eqb c 14)
   where
-    go : (b : Bool) → cond b 2 1 < 3
-    go true = omega arith
-    go false = omega arith
+    go : (b : Bool) → ended (cond b Full Cells) ≡ false
+    go true = refl
+    go false = refl
 
-pub stage_pos : (c : ℕ) → 1 ≤ cond (eqb c 14) 2 1
-stage_pos c = go (eqb c 14)
+pub stage_cells : (c : ℕ) → in_nodes (cond (eqb c 14) Full Cells) ≡ false
+stage_cells c = go (eqb c 14)
   where
-    go : (b : Bool) → 1 ≤ cond b 2 1
-    go true = omega arith
-    go false = omega arith
+    go : (b : Bool) → in_nodes (cond b Full Cells) ≡ false
+    go true = refl
+    go false = refl

@@ -4,6 +4,7 @@ use mathlib.Core.Path.{◌≡◌, refl, sym, ap, ap₂, ◌∙◌}
 use mathlib.Core.Logic.{◌⊎◌, inl, inr}
 use mathlib.Core.List.{List, [], ◌∷◌, ◌++◌}
 use mathlib.Core.Bool.{true, false, not, ◌&&◌}
+use Rattle.std.specs.Prelude.{Option, Some, None}
 use native.Mathlib.Omega.{arith}
 use lib.ListN.{length, get_or, take, drop, replicate, length-append, length-drop, length-replicate, take-append-drop}
 use lib.Seq.{slice, length-slice, take_all, drop_at, drop-drop, drop-append-le, length-take-le}
@@ -19,7 +20,7 @@ use Rattle.model_file.specs.Records.{word_bytes, words_at, node_record, word_rec
 use Rattle.laws.specs.Lists.{All}
 use Rattle.model_file.specs.Held.{Byte, Fits}
 use Rattle.model_file.specs.declared.Letter.{Letter}
-use Rattle.model_file.specs.declared.Letter.TheVariants.{Node, Cell, More, Last, Other}
+use Rattle.model_file.specs.declared.Letter.TheVariants.{Node, Cell, More, Last}
 use Rattle.model_file.proofs.Numbers.{bytes_number, number_lt, zeros_true, zeros-replicate, all_take, all_drop}
 use Rattle.model_file.proofs.Fields.{length-word_bytes, length-words_at, bytes_words}
 
@@ -30,12 +31,12 @@ Real x = T (not (is_nan x))
 -- ---- the first byte of each letter
 
 -- what the first byte of a letter's record is
-abbrev pub Marks : Letter → ℕ → Type 0
-Marks Node b = b ≡ 78
-Marks Cell b = b ≡ 67
-Marks More b = b ≡ 75
-Marks Last b = b ≡ 84
-Marks Other b = Unit {0}
+abbrev pub Marks : Option Letter → ℕ → Type 0
+Marks (Some Node) b = b ≡ 78
+Marks (Some Cell) b = b ≡ 67
+Marks (Some More) b = b ≡ 75
+Marks (Some Last) b = b ≡ 84
+Marks None b = Unit {0}
 
 -- a byte, by the letter that it is read as
 marks : (b : ℕ) → Marks (letter_of b) b
@@ -49,7 +50,7 @@ marks b = go (tested (eqb b 78)) (tested (eqb b 67)) (tested (eqb b 75)) (tested
     go (inr d) (inr f) (inr g) (inr e) = rw (d, f, g, e) tt
 
 -- a record, by its letter
-pub marked : (r : List ℕ) (l : Letter) → letter r ≡ l → Marks l (get_or r 0 0)
+pub marked : (r : List ℕ) (l : Option Letter) → letter r ≡ l → Marks l (get_or r 0 0)
 marked r l e = rw e at (marks (get_or r 0 0))
 
 -- ---- from the values to the bytes and back
@@ -59,7 +60,7 @@ float_back : (x : Float) → Fits x → float_of (float_bytes x) ≡ x
 float_back x h = ap (of_bits binary64) (number_bytes 8 (to_bits binary64 x) (to_bits-lt binary64 x h)) ∙ of_bits-to_bits binary64 x h
 
 -- the coordinates of an N
-pub node_coords_lem : (x y z : Float) → Fits x → Fits y → Fits z → coords_in Node (node_record x y z) ≡ x ∷ y ∷ z ∷ []
+pub node_coords_lem : (x y z : Float) → Fits x → Fits y → Fits z → coords_in (Some Node) (node_record x y z) ≡ x ∷ y ∷ z ∷ []
 node_coords_lem x y z hx hy hz = λ i. float_back x hx i ∷ float_back y hy i ∷ float_back z hz i ∷ []
 
 module _ (l k : ℕ) (ws : List ℕ) (small : length ws ≤ 14) where
@@ -133,11 +134,11 @@ module _ (r : List ℕ) (long : length r ≡ 32) (each : All Byte r) where
       rw (← e) (ap (bytes 8) (to_bits-of_bits binary64 (number s) lt real) ∙ (rw n at (bytes_number s q)))
 
   -- an N is the layout of its coordinates
-  pub node_back : letter r ≡ Node → record_off Node r ≡ false → All Real (coords_in Node r) → node_record (float_at 8 r) (float_at 16 r) (float_at 24 r) ≡ r
+  pub node_back : letter r ≡ Some Node → record_off (Some Node) r ≡ false → All Real (coords_in (Some Node) r) → node_record (float_at 8 r) (float_at 16 r) (float_at 24 r) ≡ r
   node_back e z h =
       let tail : drop 24 r ≡ slice 24 32 r = ap (drop 24) (sym all) in
       sym (front1 r (omega arith)
-      ∙ ap₂ (λ (b : ℕ) (t : List ℕ). b ∷ t) (marked r Node e)
+      ∙ ap₂ (λ (b : ℕ) (t : List ℕ). b ∷ t) (marked r (Some Node) e)
       (run 1 8 (omega arith) (omega arith)
       ∙ ap₂ (λ (s t : List ℕ). s ++ t) (run_zeros 1 8 (omega arith) (not-false (zeros (slice 1 8 r)) z))
       (run 8 16 (omega arith) (omega arith)
@@ -158,14 +159,14 @@ module _ (r : List ℕ) (long : length r ≡ 32) (each : All Byte r) where
       rw (length-words_at (count r) (drop 4 r)) (λ i. sym e i ∷ get_or r 1 0 ∷ get_or r 2 0 ∷ sym (eqb-true (get_or r 3 0) 0 s.0) i ∷ body i) ∙ sym (front r (omega arith))
 
   -- a T is that of its fields
-  pub last_back : letter r ≡ Last → record_off Last r ≡ false → Real (float_at 8 r) → last_record (byte1 r) (cap_in r) (float_at 8 r) ≡ r
+  pub last_back : letter r ≡ Some Last → record_off (Some Last) r ≡ false → Real (float_at 8 r) → last_record (byte1 r) (cap_in r) (float_at 8 r) ≡ r
   last_back e z h =
       let p = and_parts (zeros (slice 4 8 r)) (zeros (slice 16 32 r)) (not-false (zeros (slice 4 8 r) && zeros (slice 16 32 r)) z) in
       let cap : bytes 2 (cap_in r) ≡ slice 2 4 r =
       (let w : 4 ≤ length r = omega arith in rw (length-slice 2 4 r w) at (bytes_number (slice 2 4 r) (all_drop Byte 2 (take 4 r) (all_take Byte 4 r each)))) in
       let tail : drop 16 r ≡ slice 16 32 r = ap (drop 16) (sym all) in
       sym (front2 r (omega arith)
-      ∙ (λ i. marked r Last e i ∷ get_or r 1 0 ∷ drop 2 r)
+      ∙ (λ i. marked r (Some Last) e i ∷ get_or r 1 0 ∷ drop 2 r)
       ∙ ap (λ (t : List ℕ). 84 ∷ get_or r 1 0 ∷ t)
       (run 2 4 (omega arith) (omega arith)
       ∙ ap₂ (λ (s t : List ℕ). s ++ t) (sym cap)

@@ -19,6 +19,7 @@ use Rattle.model_file.specs.File.{node_records, records_of, records, last_of, co
 use Rattle.model_file.specs.Steps.{join, cells, judge}
 use Rattle.laws.specs.Lists.{All}
 use Rattle.model_file.specs.Held.{Byte, Held}
+use Rattle.model_file.specs.declared.Stage.TheVariants.{Nodes}
 use Rattle.model_file.proofs.Numbers.{all_append}
 use Rattle.model_file.proofs.Layouts.{Real, last_cap, last_tolerance, last_back}
 use Rattle.model_file.proofs.Chop.{Whole, chop_whole, chop_bytes, join_chop, records_join, length_join, last_snoc, all_last, nodes_whole, nodes_few, cells_whole, cells_few}
@@ -81,7 +82,7 @@ module _ (m : Model) (held : Held m) (ok : Accepted m) where
       let e1 : length s % 32 ≡ 0 = omega arith in
       let e2 : length s / 32 ≤ 131072 = omega arith in
       rw (ne_eqb (length s) 0 e0, eq-eqb (length s % 32) 0 e1, le-ltb 131072 (length s / 32) e2, records_are m)
-      (nodes_are.judged ∙ cells_are.judged 0 (omega arith))
+      (nodes_are.judged ∙ cells_are.judged Nodes refl)
 
   model_back : decode (encode m) ≡ m
   unfolding decode
@@ -116,7 +117,7 @@ bytes_back : (s : List ℕ) → All Byte s → refusal (file_table s) ≡ 0 → 
 unfolding decode
 bytes_back s b j h k =
     let rs = records s in
-    let p = row_none 1 (length_off (length s)) (judge 0 rs) (λ e. omega arith) j in
+    let p = row_none 1 (length_off (length s)) (judge Nodes rs) (λ e. omega arith) j in
     let n = length_whole (length s) p.0 in
     let w = chop_whole (length s / 32) s n in
     let e = chop_bytes (length s / 32) s b in

@@ -1,10 +1,12 @@
 -- The file: the bytes of a model, the model of bytes, and what is refused of bytes.
-use Rattle.std.specs.Prelude.{ℕ, zero, suc, ◌+◌, ◌-◌, ◌/◌, ◌%◌, Bool, true, false, not, ◌||◌, List, [], ◌∷◌, ◌++◌, eqb, ltb, length, get_or, take, drop, Float}
+use Rattle.std.specs.Prelude.{ℕ, zero, suc, ◌+◌, ◌-◌, ◌/◌, ◌%◌, Bool, true, false, not, ◌||◌, Option, List, [], ◌∷◌, ◌++◌, eqb, ltb, length, get_or, take, drop, Float}
 use Rattle.laws.specs.Limits.{record_limit}
 use Rattle.laws.specs.Lists.{each, last}
 use Rattle.mesh.specs.Model.{Model, Raw, model_of, cells_of}
-use Rattle.model_file.specs.Records.{words_most, node_record, cell_record, more_record, last_record, letter, byte1, float_at, cap_in, by_letter, coords_in, kinds_in, words_in, ends_in, stage, misplaced, record_off}
+use Rattle.model_file.specs.Records.{words_most, node_record, cell_record, more_record, last_record, letter, byte1, float_at, cap_in, by_letter, coords_in, kinds_in, words_in, ends_in, stage, ended, misplaced, record_off}
 use Rattle.model_file.specs.declared.Letter.{Letter}
+use Rattle.model_file.specs.declared.Stage.{Stage}
+use Rattle.model_file.specs.declared.Stage.TheVariants.{Nodes}
 
 -- ---- from a model to its file
 
@@ -56,7 +58,7 @@ abbrev pub words_of : List (List ℕ) → List ℕ
 words_of rs = each (λ r. words_in (letter r) r) rs
 
 -- a cell has begun, with a C
-abbrev pub opens : Letter → Bool → Bool
+abbrev pub opens : Option Letter → Bool → Bool
 opens l begun = by_letter begun true begun begun begun l
 
 -- the ends, where a cell has begun or not, after so many words
@@ -80,11 +82,11 @@ abbrev pub length_off : ℕ → Bool
 length_off n = eqb n 0 || not (eqb (n % 32) 0) || ltb record_limit (n / 32)
 
 -- records one by one from a stage on, 2 before 3; no T last comes after all
-abbrev pub records_table : ℕ → List (List ℕ) → List (ℕ × Bool)
-records_table s [] = (2, not (eqb s 3)) ∷ []
+abbrev pub records_table : Stage → List (List ℕ) → List (ℕ × Bool)
+records_table s [] = (2, not (ended s)) ∷ []
 records_table s (r ∷ rs) =
     (2, misplaced s (letter r)) ∷ (3, record_off (letter r) r) ∷ records_table (stage (letter r) r) rs
 
 -- 1 to 3
 abbrev pub file_table : List ℕ → List (ℕ × Bool)
-file_table s = (1, length_off (length s)) ∷ records_table 0 (records s)
+file_table s = (1, length_off (length s)) ∷ records_table Nodes (records s)

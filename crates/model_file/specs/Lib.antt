@@ -1,5 +1,6 @@
 -- The model file: records, the file, reading and writing.
 pub mod Records
+pub mod Letters
 pub mod File
 pub mod Reading
 pub mod Writing

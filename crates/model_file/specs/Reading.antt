@@ -1,14 +1,14 @@
 -- Reading a file: why it refuses, what it answers, and what the lent lists hold afterwards.
-use Rattle.std.specs.Prelude.{ℕ, ◌*◌, Bool, ◌||◌, List, [], ◌∷◌, ◌++◌, ◌≡◌, ltb, length, take, Float}
+use Rattle.std.specs.Prelude.{ℕ, ◌*◌, Bool, ◌||◌, List, [], ◌∷◌, ◌++◌, ◌≡◌, ltb, length, take, Float, Result}
 use Rattle.laws.specs.Lists.{All}
-use Rattle.laws.specs.Refusals.{Answer, refused, done, refusal, answer, filled}
+use Rattle.laws.specs.Refusals.{refusal, answer, filled}
+use Rattle.refusals.specs.Told.{told}
+use Rattle.refusals.specs.declared.Refusal.{Refusal}
 use Rattle.geometry.specs.Coordinates.{node_count}
 use Rattle.mesh.specs.Model.{Model, model_of}
 use Rattle.model_file.specs.File.{file_table, decode}
 use Rattle.model_file.specs.Held.{Byte}
 use Rattle.model_file.specs.declared.Found.{Found}
-use Rattle.model_file.specs.declared.ReadAnswer.{ReadAnswer}
-use Rattle.model_file.specs.declared.ReadAnswer.TheVariants.{Refused, Read}
 
 -- 4: lent lists of these lengths, one of them too short for the model
 abbrev pub room_off : Model → ℕ → ℕ → ℕ → ℕ → Bool
@@ -34,11 +34,6 @@ abbrev pub model_in : Found → List Float → List ℕ → List ℕ → List �
 model_in f coords kinds ends words =
     model_of (take (3 * f.nodes) coords) (take f.cells kinds) (take f.cells ends) (take f.words words) f.tolerance f.flags f.cap
 
--- the number and the value for each case of the enum
-abbrev pub read_told : ReadAnswer → Answer Found
-read_told (Refused n) = refused n
-read_told (Read f) = done f
-
 -- What each lent list holds after reading.
 pub record ReadMemory (s : List ℕ) (coords coords' : List Float) (kinds kinds' ends ends' words words' : List ℕ) : Type 0 where
   pub coords_are : coords' ≡ filled (read_refusal s coords kinds ends words) (decode s).coords coords
@@ -47,7 +42,7 @@ pub record ReadMemory (s : List ℕ) (coords coords' : List Float) (kinds kinds'
   pub words_are : words' ≡ filled (read_refusal s coords kinds ends words) (decode s).words words
 
 -- Reading's promise: the answer, and what each lent list holds afterwards; the bytes are bytes, by the type of what is lent.
-pub record Reading (s : List ℕ) (coords coords' : List Float) (kinds kinds' ends ends' words words' : List ℕ) (r : ReadAnswer) : Type 0 where
-  pub answered : read_told r ≡ answer (read_refusal s coords kinds ends words) (found_in (decode s))
+pub record Reading (s : List ℕ) (coords coords' : List Float) (kinds kinds' ends ends' words words' : List ℕ) (r : Result Found Refusal) : Type 0 where
+  pub answered : told r ≡ answer (read_refusal s coords kinds ends words) (found_in (decode s))
   pub memory : ReadMemory s coords coords' kinds kinds' ends ends' words words'
   pub bytes : All Byte s

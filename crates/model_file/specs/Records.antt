@@ -1,12 +1,14 @@
 -- The records of 32 bytes: their layouts, their fields, what each adds to a model, and what is refused of one.
-use Rattle.std.specs.Prelude.{ℕ, zero, suc, ◌+◌, ◌-◌, ◌*◌, Bool, true, false, not, cond, ◌&&◌, List, [], ◌∷◌, ◌++◌, leb, ltb, eqb, length, get_or, take, drop, replicate, Float}
+use Rattle.std.specs.Prelude.{ℕ, zero, suc, ◌+◌, ◌-◌, ◌*◌, Bool, true, false, not, cond, ◌&&◌, Option, Some, None, List, [], ◌∷◌, ◌++◌, leb, eqb, length, get_or, take, drop, replicate, Float}
 use Rattle.std.proofs.Math.Seq.{slice}
 use Rattle.laws.specs.Bytes.{number, bytes, zeros}
 use Rattle.laws.specs.Lists.{only_if, each}
 use Rattle.floats.specs.Floats.{float_of, float_bytes}
 use Rattle.mesh.specs.Rings.{separator}
 use Rattle.model_file.specs.declared.Letter.{Letter}
-use Rattle.model_file.specs.declared.Letter.TheVariants.{Node, Cell, More, Last, Other}
+use Rattle.model_file.specs.declared.Letter.TheVariants.{Node, Cell, More, Last}
+use Rattle.model_file.specs.declared.Stage.{Stage}
+use Rattle.model_file.specs.declared.Stage.TheVariants.{Nodes, Cells, Full, Done}
 
 -- ---- words: 16 bits in the file, 32 in the model; the separator is the largest of either
 
@@ -55,12 +57,12 @@ last_record flags cap tolerance = 84 ∷ flags ∷ (bytes 2 cap ++ (replicate 4 
 
 -- ---- the fields
 
--- what a record is, by its byte 0
-abbrev pub letter_of : ℕ → Letter
-letter_of b = cond (eqb b 78) Node (cond (eqb b 67) Cell (cond (eqb b 75) More (cond (eqb b 84) Last Other)))
+-- what a record is, by its byte 0; none where the letter is unknown
+abbrev pub letter_of : ℕ → Option Letter
+letter_of b = cond (eqb b 78) (Some Node) (cond (eqb b 67) (Some Cell) (cond (eqb b 75) (Some More) (cond (eqb b 84) (Some Last) None)))
 
 -- a record's letter
-abbrev pub letter : List ℕ → Letter
+abbrev pub letter : List ℕ → Option Letter
 letter r = letter_of (get_or r 0 0)
 
 -- a cell's kind, and the flags of T
@@ -79,46 +81,67 @@ float_at a r = float_of (slice a (a + 8) r)
 abbrev pub cap_in : List ℕ → ℕ
 cap_in r = number (slice 2 4 r)
 
--- one of five values, by the letter: N, C, K, T, any other
-abbrev pub by_letter : {A : Type 0} → A → A → A → A → A → Letter → A
-by_letter n c k t other Node = n
-by_letter n c k t other Cell = c
-by_letter n c k t other More = k
-by_letter n c k t other Last = t
-by_letter n c k t other Other = other
+-- one of five values, by the letter: N, C, K, T, none of these
+abbrev pub by_letter : {A : Type 0} → A → A → A → A → A → Option Letter → A
+by_letter n c k t none (Some Node) = n
+by_letter n c k t none (Some Cell) = c
+by_letter n c k t none (Some More) = k
+by_letter n c k t none (Some Last) = t
+by_letter n c k t none None = none
 
 -- ---- what a record adds to the model
 
 -- N: three coordinates
-abbrev pub coords_in : Letter → List ℕ → List Float
+abbrev pub coords_in : Option Letter → List ℕ → List Float
 coords_in l r = by_letter (float_at 8 r ∷ float_at 16 r ∷ float_at 24 r ∷ []) [] [] [] [] l
 
 -- C: a kind
-abbrev pub kinds_in : Letter → List ℕ → List ℕ
+abbrev pub kinds_in : Option Letter → List ℕ → List ℕ
 kinds_in l r = by_letter [] (byte1 r ∷ []) [] [] [] l
 
 -- C and K: words
-abbrev pub words_in : Letter → List ℕ → List ℕ
+abbrev pub words_in : Option Letter → List ℕ → List ℕ
 words_in l r = by_letter [] (words_at (count r) (drop 4 r)) (words_at (count r) (drop 4 r)) [] [] l
 
 -- C and T: an open cell ends, after so many words, where the next begins or T stands
-abbrev pub ends_in : Letter → Bool → ℕ → List ℕ
+abbrev pub ends_in : Option Letter → Bool → ℕ → List ℕ
 ends_in l begun at = by_letter [] (only_if begun (at ∷ [])) [] (only_if begun (at ∷ [])) [] l
 
 -- ---- what is refused of a record
 
--- where a file stands: 0 at its start and after an N, 1 after a cell's record, 2 after a full one, 3 after T
-abbrev pub stage : Letter → List ℕ → ℕ
-stage l r = by_letter 0 (cond (eqb (count r) words_most) 2 1) (cond (eqb (count r) words_most) 2 1) 3 3 l
+-- where a file stands after a record; it starts as after an N
+abbrev pub stage : Option Letter → List ℕ → Stage
+stage l r = by_letter Nodes (cond (eqb (count r) words_most) Full Cells) (cond (eqb (count r) words_most) Full Cells) Done Done l
+
+-- only nodes stand before
+abbrev pub in_nodes : Stage → Bool
+in_nodes Nodes = true
+in_nodes Cells = false
+in_nodes Full = false
+in_nodes Done = false
+
+-- a full record of a cell stands before
+abbrev pub after_full : Stage → Bool
+after_full Nodes = false
+after_full Cells = false
+after_full Full = true
+after_full Done = false
+
+-- T stands before
+abbrev pub ended : Stage → Bool
+ended Nodes = false
+ended Cells = false
+ended Full = false
+ended Done = true
 
 -- 2: letter unknown or misplaced
-abbrev pub misplaced : ℕ → Letter → Bool
-misplaced s l = by_letter (not (eqb s 0)) (not (ltb s 3)) (not (eqb s 2)) (not (ltb s 3)) true l
+abbrev pub misplaced : Stage → Option Letter → Bool
+misplaced s l = by_letter (not (in_nodes s)) (ended s) (not (after_full s)) (ended s) true l
 
 -- a count from `least` on, byte 3 and the unused words zero
 abbrev pub words_right : ℕ → List ℕ → Bool
 words_right least r = leb least (count r) && (leb (count r) words_most && (eqb (get_or r 3 0) 0 && zeros (slice (4 + 2 * count r) 32 r)))
 
 -- 3: a count or zero byte wrong
-abbrev pub record_off : Letter → List ℕ → Bool
+abbrev pub record_off : Option Letter → List ℕ → Bool
 record_off l r = by_letter (not (zeros (slice 1 8 r))) (not (words_right 0 r)) (not (eqb (byte1 r) 0 && words_right 1 r)) (not (zeros (slice 4 8 r) && zeros (slice 16 32 r))) false l

@@ -1,14 +1,42 @@
 // The model file: 32-byte records, read into lent lists and written from them.
 #![tactic(auto)]
 
-// What a record is, by its first byte.
-#[derive(Clone, Copy)]
+ghost use Rattle.model_file.specs.Letters.{LetterRead};
+
+use refusals::Refusal;
+
+// What a record is, under its first byte.
+#[derive(Clone, Copy, Debug, PartialEq, Eq)]
 pub enum Letter {
-    Node,
-    Cell,
-    More,
-    Last,
-    Other,
+    Node = 78,
+    Cell = 67,
+    More = 75,
+    Last = 84,
+}
+
+impl TryFrom<u8> for Letter {
+    type Error = Refusal;
+
+    ghost try_from_gives = { LetterRead };
+
+    fn try_from(byte: u8) -> Result<Letter, Refusal> {
+        match byte {
+            78 => Ok(Letter::Node),
+            67 => Ok(Letter::Cell),
+            75 => Ok(Letter::More),
+            84 => Ok(Letter::Last),
+            _ => Err(Refusal::Letter),
+        }
+    }
+}
+
+// Where a file stands: at its start or after an N, after a cell's record, after a full one, after T.
+#[derive(Clone, Copy, Debug, PartialEq, Eq)]
+pub enum Stage {
+    Nodes,
+    Cells,
+    Full,
+    Done,
 }
 
 // What a file holds besides the lists.
@@ -20,18 +48,4 @@ pub struct Found {
     pub tolerance: f64,
     pub flags: u8,
     pub cap: u16,
-}
-
-// What reading answers: a refusal's number, or what was found.
-#[derive(Clone, Copy)]
-pub enum ReadAnswer {
-    Refused(u8),
-    Read(Found),
-}
-
-// What writing answers: a refusal's number, or how many bytes were written.
-#[derive(Clone, Copy)]
-pub enum WriteAnswer {
-    Refused(u8),
-    Written(usize),
 }
