@@ -151,13 +151,13 @@ pub fn key_centroid(coords: &[f64], nodes: &[u32]) -> Point
 // ---- scale and eps
 
 // The largest of m and the sizes of p's coordinates.
-#[tactic(auto, unfolding(crate::specs::Scale::largest_of))]
+#[tactic(auto, using(floats::proofs::Small::absolute_is), unfolding(crate::specs::Scale::largest_of))]
 fn largest(m: f64, p: Point) -> f64
     ensures { result ≡ largest_of m p }
 {
-    let mx = floats::larger(m, floats::absolute(p.x));
-    let my = floats::larger(mx, floats::absolute(p.y));
-    floats::larger(my, floats::absolute(p.z))
+    let mx = floats::larger(m, p.x.abs());
+    let my = floats::larger(mx, p.y.abs());
+    floats::larger(my, p.z.abs())
 }
 
 // eps: the larger of the tolerance and 64 * 2 ^ -52 * scale.
