@@ -1,15 +1,13 @@
 -- The public operation's refusals, row by row, and what a list that is not refused says of its numbers.
-use mathlib.Core.Path.{◌≡◌, ap, ◌∙◌}
-use mathlib.Core.Bool.{Bool, true, false, not, ◌&&◌, ◌||◌, or-true}
+use mathlib.Core.Path.{◌≡◌}
+use mathlib.Core.Bool.{Bool, true, false, not, ◌||◌}
 use mathlib.Core.List.{List, [], ◌∷◌}
-use Prim.Native.Nat.{ℕ, zero, suc, ◌+◌, ◌/◌, ◌<◌, ◌≤◌}
-use native.Mathlib.Numerals.{add-one}
+use Prim.Native.Nat.{ℕ, zero, suc, ◌/◌, ◌<◌}
 use native.Mathlib.Omega.{arith}
 use lib.Dec.{leb}
-use lib.ListN.{length, get_or, drop, drop_of_length-le}
-use lib.Seq.{drop-cons}
+use lib.ListN.{length, get_or}
 use lib.Ieee.{Float}
-use borrow.Author.Tests.{le-leb, lt-leb, leb-false}
+use borrow.Author.Tests.{leb-false}
 use Rattle.laws.specs.Lists.{any}
 use Rattle.laws.specs.Refusals.{Answer, refused, done, refusal, answer}
 use Rattle.laws.proofs.Tests.{or_none}
@@ -53,25 +51,6 @@ module _ (a b d e f : Bool) (x : Area) where
 -- off, where the next number is m at least
 abbrev pub off_from : ℕ → ℕ → List ℕ → Bool
 off_from n m ks = not (ascends_from m ks) || any (λ k. leb n k) ks
-
-module _ (n m : ℕ) (ks : List ℕ) (i : ℕ) where
-  -- a number below the next one allowed
-  pub off_low : i < length ks → get_or ks i 0 < m → off_from n m (drop i ks) ≡ true
-  off_low h l = ap (off_from n m) (drop-cons ks i 0 h) ∙ rw (lt-leb m (get_or ks i 0) l)
-
-  -- a number that is no node's
-  pub off_high : i < length ks → n ≤ get_or ks i 0 → off_from n m (drop i ks) ≡ true
-  off_high h g = ap (off_from n m) (drop-cons ks i 0 h) ∙ rw (le-leb n (get_or ks i 0) g) (or-true (not (leb m (get_or ks i 0) && ascends_from (suc (get_or ks i 0)) (drop (suc i) ks))))
-
-  -- a number that passes: the next one allowed is one more
-  pub off_next : i < length ks → m ≤ get_or ks i 0 → get_or ks i 0 < n → off_from n m (drop i ks) ≡ off_from n (get_or ks i 0 + 1) (drop (i + 1) ks)
-  off_next h g l =
-      ap (off_from n m) (drop-cons ks i 0 h)
-      ∙ rw (le-leb m (get_or ks i 0) g, lt-leb n (get_or ks i 0) l, add-one i, add-one (get_or ks i 0))
-
-  -- nothing left
-  pub off_end : length ks ≤ i → off_from n m (drop i ks) ≡ false
-  off_end h = ap (off_from n m) (drop_of_length-le ks h)
 
 -- each number is below n
 below : (n : ℕ) (ks : List ℕ) (i : ℕ) → any (λ k. leb n k) ks ≡ false → i < length ks → get_or ks i 0 < n

@@ -2,20 +2,21 @@
 // the extent, of the largest square, and elsewhere only where squares do not decide; the contracts say that the answer is the same.
 #![tactic(auto)]
 
-ghost use Rattle.std.specs.Prelude.{◌≡◌, ◌<◌, ◌≤◌, length, get_or, drop};
+ghost use Rattle.std.specs.Prelude.{◌≡◌, [], ◌∷◌, MatchOption};
 ghost use Rattle.std.specs.Float.Ieee.{lt};
 ghost use Rattle.floats.specs.Floats.{larger_of};
 ghost use Rattle.refusals.specs.Told.{told};
-ghost use Rattle.geometry.specs.Points.{point_sub, point_dot, point_cross, length_of, point_at, points_of};
+ghost use Rattle.geometry.specs.Points.{point_dot, point_cross, length_of, points_of};
+ghost use Rattle.geometry.specs.Nodes.{points_in};
 ghost use Rattle.geometry.specs.Steps.{InNodes};
 ghost use Rattle.area.specs.AreaTest.{extent_of, direction_of, thick_of, area_of, is_spans, list_off, area_answer};
-ghost use Rattle.area.specs.Steps.{away_from, most_of, headed};
+ghost use Rattle.area.specs.Steps.{away_from, most_of};
 
-use geometry::Point;
+use geometry::{Nodes, Point};
 use refusals::Refusal;
 
 // What the area test says of a list of nodes.
-#[derive(Clone, Copy)]
+#[derive(Clone, Copy, Debug, PartialEq, Eq)]
 pub enum Area {
     TooFew,
     Together,
@@ -24,22 +25,7 @@ pub enum Area {
     Spans,
 }
 
-// The first difference that is longer than eps.
-#[derive(Clone, Copy)]
-enum Heading {
-    Along(Point),
-    Missing,
-}
-
-// ---- differences from the first node
-
-// The difference of node i from o.
-fn away(coords: &[f64], nodes: &[u32], o: Point, i: usize) -> Point
-    requires { InNodes coords.now nodes.now × (i < length nodes.now) }
-    ensures { result ≡ point_sub (point_at coords.now (get_or nodes.now i 0)) o }
-{
-    geometry::difference(geometry::point3(coords, nodes[i]), o)
-}
+// ---- differences from the first node, of the nodes after it
 
 // The larger of m and d · d.
 fn reach(m: f64, d: Point) -> f64
@@ -48,42 +34,39 @@ fn reach(m: f64, d: Point) -> f64
     floats::larger(m, geometry::dot(d, d))
 }
 
-// The largest d · d of the differences from o of the nodes after the first.
-fn most(coords: &[f64], nodes: &[u32], o: Point) -> f64
-    requires { InNodes coords.now nodes.now × (1 ≤ length nodes.now) }
-    ensures { result ≡ most_of (away_from o (points_of coords.now (drop 1 nodes.now))) }
+// The largest d · d of the differences from o.
+fn most(rest: &Nodes, o: Point) -> f64
+    ensures { result ≡ most_of (away_from o (points_in rest.now)) }
 {
     let mut m = 0.0;
-    let mut i = 1;
-    while i < nodes.len() {
-        m = reach(m, away(coords, nodes, o, i));
-        i += 1;
+    for node in rest.nodes {
+        m = reach(
+            m,
+            geometry::difference(geometry::point3(rest.coords, *node), o),
+        );
     }
     m
 }
 
 // The largest length of these differences: the root grows with d · d, so one root is enough.
-fn extent(coords: &[f64], nodes: &[u32], o: Point) -> f64
-    requires { InNodes coords.now nodes.now × (1 ≤ length nodes.now) }
-    ensures { result ≡ extent_of (away_from o (points_of coords.now (drop 1 nodes.now))) }
+#[tactic(auto, using(crate::proofs::OneRoot::extent_root))]
+fn extent(rest: &Nodes, o: Point) -> f64
+    ensures { result ≡ extent_of (away_from o (points_in rest.now)) }
 {
-    floats::sqrt(most(coords, nodes, o))
+    floats::sqrt(most(rest, o))
 }
 
 // The first difference that is longer than eps.
-fn direction(coords: &[f64], nodes: &[u32], o: Point, eps: f64) -> Heading
-    requires { InNodes coords.now nodes.now × (1 ≤ length nodes.now) }
-    ensures { headed result ≡ direction_of eps (away_from o (points_of coords.now (drop 1 nodes.now))) }
+fn direction(rest: &Nodes, o: Point, eps: f64) -> Option<Point>
+    ensures { MatchOption result (direction_of eps (away_from o (points_in rest.now)) ≡ []) (λ d. direction_of eps (away_from o (points_in rest.now)) ≡ d ∷ []) }
 {
-    let mut i = 1;
-    while i < nodes.len() {
-        let d = away(coords, nodes, o, i);
+    for node in rest.nodes {
+        let d = geometry::difference(geometry::point3(rest.coords, *node), o);
         if geometry::longer(d, eps) {
-            return Heading::Along(d);
+            return Some(d);
         }
-        i += 1;
     }
-    Heading::Missing
+    None
 }
 
 // |dir × d| is above the bound.
@@ -94,16 +77,14 @@ fn thick_at(bound: f64, dir: Point, d: Point) -> bool
 }
 
 // Some difference is thick.
-fn thick(coords: &[f64], nodes: &[u32], o: Point, dir: Point, bound: f64) -> bool
-    requires { InNodes coords.now nodes.now × (1 ≤ length nodes.now) }
-    ensures { result ≡ thick_of bound dir (away_from o (points_of coords.now (drop 1 nodes.now))) }
+fn thick(rest: &Nodes, o: Point, dir: Point, bound: f64) -> bool
+    ensures { result ≡ thick_of bound dir (away_from o (points_in rest.now)) }
 {
-    let mut i = 1;
-    while i < nodes.len() {
-        if thick_at(bound, dir, away(coords, nodes, o, i)) {
+    for node in rest.nodes {
+        let d = geometry::difference(geometry::point3(rest.coords, *node), o);
+        if thick_at(bound, dir, d) {
             return true;
         }
-        i += 1;
     }
     false
 }
@@ -111,6 +92,7 @@ fn thick(coords: &[f64], nodes: &[u32], o: Point, dir: Point, bound: f64) -> boo
 // ---- the test, on nodes that are known to be good
 
 // What the test says, with its reason.
+#[tactic(auto, using(geometry::proofs::Listed::points_length, crate::proofs::Judged::differences), unfolding(crate::specs::AreaTest::area_of, crate::specs::AreaTest::spread_of))]
 pub fn area_of(coords: &[f64], nodes: &[u32], tol: f64) -> Area
     requires { InNodes coords.now nodes.now }
     ensures { result ≡ area_of tol (points_of coords.now nodes.now) }
@@ -118,22 +100,26 @@ pub fn area_of(coords: &[f64], nodes: &[u32], tol: f64) -> Area
     if nodes.len() < 3 {
         return Area::TooFew;
     }
-    let o = geometry::point3(coords, nodes[0]);
-    let eps = geometry::margin(tol, geometry::scale(coords, nodes));
-    let far = extent(coords, nodes, o);
+    let all = Nodes { coords, nodes };
+    let eps = geometry::margin(tol, all.scale());
+    let o = all.point(0);
+    let rest = Nodes {
+        coords,
+        nodes: &nodes[1..],
+    };
+    let far = extent(&rest, o);
     if far <= eps {
         return Area::Together;
     }
-    let heading = direction(coords, nodes, o, eps);
-    match heading {
-        Heading::Along(dir) => {
-            if thick(coords, nodes, o, dir, eps * far) {
+    match direction(&rest, o, eps) {
+        Some(dir) => {
+            if thick(&rest, o, dir, eps * far) {
                 Area::Spans
             } else {
                 Area::Thin
             }
         }
-        Heading::Missing => Area::NoDirection,
+        None => Area::NoDirection,
     }
 }
 
@@ -142,14 +128,7 @@ pub fn common_nodes_span_area(coords: &[f64], nodes: &[u32], tol: f64) -> bool
     requires { InNodes coords.now nodes.now }
     ensures { result ≡ is_spans (area_of tol (points_of coords.now nodes.now)) }
 {
-    let a = area_of(coords, nodes, tol);
-    match a {
-        Area::TooFew => false,
-        Area::Together => false,
-        Area::NoDirection => false,
-        Area::Thin => false,
-        Area::Spans => true,
-    }
+    area_of(coords, nodes, tol) == Area::Spans
 }
 
 // ---- the public operation
@@ -159,9 +138,8 @@ fn list_off(n: usize, nodes: &[u32]) -> bool
     ensures { result ≡ list_off n nodes.now }
 {
     let mut next: usize = 0;
-    let mut i = 0;
-    while i < nodes.len() {
-        let k = nodes[i] as usize;
+    for node in nodes {
+        let k = *node as usize;
         if k < next {
             return true;
         }
@@ -169,7 +147,6 @@ fn list_off(n: usize, nodes: &[u32]) -> bool
             return true;
         }
         next = k + 1;
-        i += 1;
     }
     false
 }

@@ -15,24 +15,23 @@ fn ring_meets(coords: &[f64], tol: f64, work: &[u32], l: Layout, g: usize) -> bo
     requires { Ringed l (take l.at.bows work.now) × (l.at.nodes ≡ node_count coords.now) × (g < l.at.faces) }
     ensures { result ≡ ring_bow coords.now tol l (take l.at.bows work.now) g }
 {
-    let p: index::Places = l.at;
     let s = layout::ring_row(work, l, g);
     let e = layout::ring_row(work, l, g + 1);
     let start = l.rings + s;
     let end = l.rings + e;
     let n = end - start;
     let mut ring = [0u32; 64];
-    welding::put_welded(&work[start..end], work, l.weld, p.nodes, &mut ring);
+    welding::put_welded(&work[start..end], work, l.weld, l.at.nodes, &mut ring);
     bow_tie::face_self_intersects(coords, &ring[0..n], tol)
 }
 
 // The number of the first face of cell c; for c past the last, of all faces.
+// Apart from layout::first_face: the cells' marks and the index that its contract reads do not stand yet.
 fn first_face(work: &[u32], l: Layout, c: usize) -> usize
     requires { Ringed l (take l.at.bows work.now) × (c ≤ l.at.cell_count) }
     ensures { (result ≡ first_of l (take l.at.bows work.now) c) × (result ≤ l.at.faces) }
 {
-    let at = l.firsts + c;
-    counting::wide(work[at])
+    work[l.firsts + c] as usize
 }
 
 // Some ring of cell c meets itself.
@@ -41,37 +40,20 @@ fn cell_meets(coords: &[f64], tol: f64, work: &[u32], l: Layout, c: usize) -> bo
     ensures { result ≡ cell_bow coords.now tol l (take l.at.bows work.now) c }
 {
     let end = first_face(work, l, c + 1);
-    let mut g = first_face(work, l, c);
-    while g < end {
+    for g in first_face(work, l, c)..end {
         if ring_meets(coords, tol, work, l, g) {
             return true;
         }
-        g += 1;
     }
     false
 }
 
-// 1 for a bow-tie, 0 for none.
-fn mark(b: bool) -> u32
-    ensures { result ≡ bit b }
-{
-    if b {
-        return 1;
-    }
-    0
-}
-
-// The mark of each cell goes to its place among the marks of bow-ties.
+// The mark of each cell, 1 for a bow-tie and 0 for none, goes to its place among the marks of bow-ties.
 pub fn put_bows(coords: &[f64], tol: f64, work: &mut [u32], l: Layout)
     requires { Ringed l (take l.at.bows work.old) × (l.at.bows + l.at.cell_count ≤ length work.old) × (l.at.nodes ≡ node_count coords.now) }
     ensures { work.new ≡ sets work.old l.at.bows (map (λ c. bit (cell_bow coords.now tol l (take l.at.bows work.old) c)) (up_from 0 l.at.cell_count)) }
 {
-    let p: index::Places = l.at;
-    let o = p.bows;
-    let n = p.cell_count;
-    let mut c = 0;
-    while c < n {
-        work[o + c] = mark(cell_meets(coords, tol, work, l, c));
-        c += 1;
+    for c in 0..l.at.cell_count {
+        work[l.at.bows + c] = u32::from(cell_meets(coords, tol, work, l, c));
     }
 }

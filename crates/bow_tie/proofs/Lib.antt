@@ -1,2 +1,2 @@
--- Laws of edges and rings.
+-- A law of searches.
 pub mod Sought

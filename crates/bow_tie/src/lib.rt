@@ -3,21 +3,18 @@
 
 ghost use Rattle.std.specs.Prelude.{◌≡◌, ◌<◌, ◌≤◌, length, get_or};
 ghost use Rattle.geometry.specs.Points.{point_at, points_of};
+ghost use Rattle.geometry.specs.Nodes.{points_in};
 ghost use Rattle.geometry.specs.Steps.{InNodes};
 ghost use Rattle.bow_tie.specs.Edges.{place_of, parallel_of, crossing_of, meeting_of, slack_of, on_edge, near, reaches, touch_of, edges_meet};
 ghost use Rattle.bow_tie.specs.BowTie.{following, first_and_last, pair_meets, later_meets, bow_tie_of};
 
-use geometry::Point;
-
-const EPSILON: f64 = 2.220446049250313e-16;
+use geometry::{Nodes, Point};
 
 const TINY: f64 = 1e-12;
 
-const LEAST: f64 = 2.2250738585072014e-308;
-
 // ---- the meeting of two edges
 
-// How two edges meet: parallel, with the span of the second along the first; crossing, with the parameter on each; or not.
+// How two edges meet (a form that document 01 names): parallel, with the span of the second along the first; crossing, with the parameter on each; or not.
 #[derive(Clone, Copy)]
 pub enum Meeting {
     Parallel(f64, f64),
@@ -26,6 +23,7 @@ pub enum Meeting {
 }
 
 // Where p lies along d from a.
+#[tactic(auto, unfolding(crate::specs::Edges::place_of))]
 fn place(a: Point, d: Point, dd: f64, p: Point) -> f64
     ensures { result ≡ place_of a d dd p }
 {
@@ -33,6 +31,7 @@ fn place(a: Point, d: Point, dd: f64, p: Point) -> f64
 }
 
 // The meeting of parallel edges.
+#[tactic(auto, unfolding(crate::specs::Edges::parallel_of))]
 fn parallel(eps: f64, a: Point, d1: Point, a11: f64, c: Point, d: Point) -> Meeting
     ensures { result ≡ parallel_of eps a d1 a11 c d }
 {
@@ -50,6 +49,7 @@ fn parallel(eps: f64, a: Point, d1: Point, a11: f64, c: Point, d: Point) -> Meet
 }
 
 // The span from lo to hi has a part between -slack and 1 + slack.
+#[tactic(auto, using(floats::proofs::Constants::one_bits))]
 fn span_reaches(slack: f64, lo: f64, hi: f64) -> bool
     ensures { result ≡ reaches slack lo hi }
 {
@@ -59,6 +59,7 @@ fn span_reaches(slack: f64, lo: f64, hi: f64) -> bool
 }
 
 // The meeting of edges that are not parallel.
+#[tactic(auto, unfolding(crate::specs::Edges::crossing_of))]
 fn crossing(s: f64, t: f64) -> Meeting
     ensures { result ≡ crossing_of s t }
 {
@@ -72,6 +73,7 @@ fn crossing(s: f64, t: f64) -> Meeting
 }
 
 // How the edges a - b and c - d meet.
+#[tactic(auto, using(floats::proofs::Constants::zero_bits), unfolding(crate::specs::Edges::meeting_of))]
 pub fn meet(a: Point, b: Point, c: Point, d: Point, eps: f64) -> Meeting
     ensures { result ≡ meeting_of eps a b c d }
 {
@@ -90,20 +92,25 @@ pub fn meet(a: Point, b: Point, c: Point, d: Point, eps: f64) -> Meeting
     let b1 = geometry::dot(d1, r);
     let b2 = geometry::dot(d2, r);
     let denom = a11 * a22 - a12 * a12;
-    if denom <= 64.0 * EPSILON * a11 * a22 {
+    if denom <= 64.0 * f64::EPSILON * a11 * a22 {
         return parallel(eps, a, d1, a11, c, d);
     }
     crossing((a12 * b2 - a22 * b1) / denom, (a11 * b2 - a12 * b1) / denom)
 }
 
 // eps as a part of the length of a - b.
+#[tactic(auto, unfolding(crate::specs::Edges::slack_of))]
 fn slack(eps: f64, a: Point, b: Point) -> f64
     ensures { result ≡ slack_of eps a b }
 {
-    eps / floats::larger(geometry::size(geometry::difference(b, a)), LEAST)
+    eps / floats::larger(
+        geometry::size(geometry::difference(b, a)),
+        f64::MIN_POSITIVE,
+    )
 }
 
 // The point at s on the edge from a to b.
+#[tactic(auto, unfolding(crate::specs::Edges::on_edge))]
 fn on_edge(a: Point, b: Point, s: f64) -> Point
     ensures { result ≡ on_edge a b s }
 {
@@ -111,6 +118,7 @@ fn on_edge(a: Point, b: Point, s: f64) -> Point
 }
 
 // p and q are within eps of each other.
+#[tactic(auto, unfolding(crate::specs::Edges::near))]
 fn is_near(eps: f64, p: Point, q: Point) -> bool
     ensures { result ≡ near eps p q }
 {
@@ -130,6 +138,7 @@ pub fn touch(a: Point, b: Point, c: Point, d: Point, eps: f64, m: Meeting) -> bo
 }
 
 // The edges a - b and c - d share a point, within eps.
+#[tactic(auto, unfolding(crate::specs::Edges::edges_meet))]
 pub fn segments_intersect3(a: Point, b: Point, c: Point, d: Point, eps: f64) -> bool
     ensures { result ≡ edges_meet eps a b c d }
 {
@@ -139,12 +148,11 @@ pub fn segments_intersect3(a: Point, b: Point, c: Point, d: Point, eps: f64) -> 
 // ---- rings that meet themselves
 
 // The end of edge i: corner i + 1, or corner 0.
-fn following_at(coords: &[f64], ring: &[u32], i: usize) -> Point
-    requires { InNodes coords.now ring.now × (i < length ring.now) }
-    ensures { result ≡ following (points_of coords.now ring.now) i }
+fn following_at(ring: &Nodes, i: usize) -> Point
+    requires { i < length ring.now.nodes.now }
+    ensures { result ≡ following (points_in ring.now) i }
 {
-    let j = (i + 1) % ring.len();
-    geometry::point3(coords, ring[j])
+    ring.point((i + 1) % ring.nodes.len())
 }
 
 // Edges i and j are the first and the last of n, which are neighbours.
@@ -158,48 +166,35 @@ fn first_and_last(n: usize, i: usize, j: usize) -> bool
 }
 
 // Edges i, which is a - b, and j meet and are not the first and the last.
-fn pair_meets(
-    coords: &[f64],
-    ring: &[u32],
-    eps: f64,
-    a: Point,
-    b: Point,
-    i: usize,
-    j: usize,
-) -> bool
-    requires { InNodes coords.now ring.now × (i < length ring.now) × (j < length ring.now) × (a ≡ point_at coords.now (get_or ring.now i 0)) × (b ≡ following (points_of coords.now ring.now) i) }
-    ensures { result ≡ pair_meets eps (points_of coords.now ring.now) i j }
+#[tactic(auto, using(geometry::proofs::Listed::points_length, geometry::proofs::Listed::points_at), unfolding(crate::specs::BowTie::pair_meets))]
+fn pair_meets(ring: &Nodes, eps: f64, a: Point, b: Point, i: usize, j: usize) -> bool
+    requires { (i < length ring.now.nodes.now) × (j < length ring.now.nodes.now) × (a ≡ point_at ring.now.coords.now (get_or ring.now.nodes.now i 0)) × (b ≡ following (points_in ring.now) i) }
+    ensures { result ≡ pair_meets eps (points_in ring.now) i j }
 {
-    if first_and_last(ring.len(), i, j) {
+    if first_and_last(ring.nodes.len(), i, j) {
         return false;
     }
-    segments_intersect3(
-        a,
-        b,
-        geometry::point3(coords, ring[j]),
-        following_at(coords, ring, j),
-        eps,
-    )
+    segments_intersect3(a, b, ring.point(j), following_at(ring, j), eps)
 }
 
 // Edge i meets a later one.
-fn later_meets(coords: &[f64], ring: &[u32], eps: f64, i: usize) -> bool
-    requires { InNodes coords.now ring.now × (i < length ring.now) × (length ring.now ≤ 64) }
-    ensures { result ≡ later_meets eps (points_of coords.now ring.now) i }
+#[tactic(auto, using(geometry::proofs::Listed::points_length, crate::proofs::Sought::any_skip), unfolding(crate::specs::BowTie::later_meets))]
+fn later_meets(ring: &Nodes, eps: f64, i: usize) -> bool
+    requires { i < length ring.now.nodes.now }
+    ensures { result ≡ later_meets eps (points_in ring.now) i }
 {
-    let a = geometry::point3(coords, ring[i]);
-    let b = following_at(coords, ring, i);
-    let mut j = i + 2;
-    while j < ring.len() {
-        if pair_meets(coords, ring, eps, a, b, i, j) {
+    let a = ring.point(i);
+    let b = following_at(ring, i);
+    for j in i + 2..ring.nodes.len() {
+        if pair_meets(ring, eps, a, b, i, j) {
             return true;
         }
-        j += 1;
     }
     false
 }
 
 // Two edges of the ring that are not neighbours share a point.
+#[tactic(auto, using(geometry::proofs::Listed::points_length, crate::proofs::Sought::any_skip), unfolding(crate::specs::BowTie::bow_tie_of))]
 pub fn face_self_intersects(coords: &[f64], ring: &[u32], tol: f64) -> bool
     requires { InNodes coords.now ring.now × (length ring.now ≤ 64) }
     ensures { result ≡ bow_tie_of tol (points_of coords.now ring.now) }
@@ -207,13 +202,15 @@ pub fn face_self_intersects(coords: &[f64], ring: &[u32], tol: f64) -> bool
     if ring.len() < 4 {
         return false;
     }
-    let eps = geometry::margin(tol, geometry::scale(coords, ring));
-    let mut i = 0;
-    while i < ring.len() {
-        if later_meets(coords, ring, eps, i) {
+    let corners = Nodes {
+        coords,
+        nodes: ring,
+    };
+    let eps = geometry::margin(tol, corners.scale());
+    for i in 0..ring.len() {
+        if later_meets(&corners, eps, i) {
             return true;
         }
-        i += 1;
     }
     false
 }

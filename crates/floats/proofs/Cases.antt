@@ -30,6 +30,16 @@ not_nan nan e = absurd (subst T (sym nan_differs ∙ e) tt)
 not_nan (inf s) e = tt
 not_nan (fin s m k) e = tt
 
+-- the same by the test of `f64::is_nan`
+pub nan_is : (x : Float) → is_nan x ≡ true → x ≡ nan
+unfolding is_nan
+nan_is nan e = refl
+nan_is (inf s) e = absurd (subst T (sym e) tt)
+nan_is (fin s m k) e = absurd (subst T (sym e) tt)
+
+pub number_is : (x : Float) → is_nan x ≡ false → T (not (is_nan x))
+number_is x e = subst (λ (b : Bool). T (not b)) (sym e) tt
+
 pub sqrt-nan : (x : Float) → x ≡ nan → x ≡ sqrt x
 unfolding sqrt
 sqrt-nan x e = subst (λ (y : Float). y ≡ sqrt y) (sym e) refl

@@ -54,23 +54,11 @@ whole_root_lem (suc k) n h = digit_root n (whole_root k (n / 4)) (whole_root_lem
 
 -- ---- the digit function: the root of m * 4 ^ zeros, below 4 ^ left
 
-pub none_left : (m zeros left : ℕ) → left ≡ 0 → zeros ≤ left → m < 4 ^ (left - zeros) → Rest (m * 4 ^ zeros) 0 0
-none_left m zeros left e h l =
-    let d : left - zeros ≡ 0 = omega arith in
-    let b : m < 1 = subst (λ (x : ℕ). m < 4 ^ x) d l in
-    let z : m ≡ 0 = omega arith in
-    record { whole = sym (ap (λ (x : ℕ). x * 4 ^ zeros) z ∙ zero-mul (4 ^ zeros)); small = zero-le }
-
--- what is asked of the call, at a digit of m and at a zero after it
+-- what is asked of the call, at a digit of m
 pub down : (m zeros left : ℕ) → (left ≡ 0 → ⊥) → zeros ≡ 0 → m < 4 ^ (left - zeros) → m / 4 < 4 ^ (left - 1 - 0)
 down m zeros left n e l =
     let d : left - zeros ≡ suc (left - 1 - 0) = omega arith in
     quarter m (left - 1 - 0) (subst (λ (x : ℕ). m < 4 ^ x) d l)
-
-pub down_zero : (m zeros left : ℕ) → (zeros ≡ 0 → ⊥) → zeros ≤ left → m < 4 ^ (left - zeros) → m < 4 ^ (left - 1 - (zeros - 1))
-down_zero m zeros left n h l =
-    let d : left - zeros ≡ left - 1 - (zeros - 1) = omega arith in
-    subst (λ (x : ℕ). m < 4 ^ x) d l
 
 -- what the call is of
 pub last_digit : (m zeros : ℕ) → zeros ≡ 0 → m / 4 * 4 ^ 0 * 4 + m % 4 ≡ m * 4 ^ zeros

@@ -41,12 +41,12 @@ fn digit(d: RootRest, low: u64) -> RootRest
     } else {
         RootRest {
             root: root * 2,
-            rest: rest,
+            rest,
         }
     }
 }
 
-// The whole root of m * 4 ^ zeros, which has `left` digits to the base 4: one binary digit of the root a call.
+// The whole root of m * 4 ^ zeros, which has `left` digits to the base 4: one binary digit of the root a call, as document 01 asks.
 fn digits(m: u64, zeros: u64, left: u64) -> RootRest
     requires { (zeros ≤ left) × (m < 4 ^ (left - zeros)) × (left ≤ 54) }
     ensures { Rest (m * 4 ^ zeros) result.root result.rest × (result.root < 2 ^ left) }
@@ -86,10 +86,10 @@ fn of_power(p: u64, a: u64) -> f64
 pub fn sqrt(x: f64) -> f64
     ensures { result ≡ Spec.sqrt x }
 {
-    if x != x {
+    if x.is_nan() {
         return x;
     }
-    let bits = f64::to_bits(x);
+    let bits = x.to_bits();
     let sign = bits >> 63;
     let exponent = bits >> 52 & 0x7ff;
     let significand = bits & 0xf_ffff_ffff_ffff;
@@ -98,13 +98,13 @@ pub fn sqrt(x: f64) -> f64
             return x;
         }
         if sign == 1 {
-            return 0.0 / 0.0;
+            return f64::NAN;
         }
-        let zeros = u64::leading_zeros(significand) - 11;
+        let zeros = significand.leading_zeros() - 11;
         return of_power(significand << zeros, 1074 - zeros as u64);
     }
     if sign == 1 {
-        return 0.0 / 0.0;
+        return f64::NAN;
     }
     if exponent == 0x7ff {
         return x;
@@ -117,12 +117,8 @@ pub fn root_over(v: f64, e: f64) -> bool
     ensures { result ≡ lt e (Spec.sqrt v) }
 {
     let x = e * 2.0;
-    if 0.0 < e {
-        if e < x {
-            if x * x < v {
-                return true;
-            }
-        }
+    if 0.0 < e && e < x && x * x < v {
+        return true;
     }
     sqrt(v) > e
 }
@@ -140,65 +136,48 @@ pub fn root(x: f64) -> Result<f64, Refusal>
     Ok(sqrt(x))
 }
 
-// ---- absolute value, the larger of two
+// ---- the larger of two
 
-// The size of x, without its sign.
-pub fn absolute(x: f64) -> f64
-    ensures { result ≡ absolute_of x }
-{
-    if x == 0.0 {
-        return 0.0;
-    }
-    if x < 0.0 { -x } else { x }
-}
-
-// The larger of two numbers; where one is a NaN, the other.
+// The larger of two numbers; where one is a NaN, the other. Of 0 and -0 the first: `f64::max` leaves open which.
+#[tactic(auto, unfolding(crate::specs::Floats::larger_of))]
 pub fn larger(a: f64, b: f64) -> f64
     ensures { result ≡ larger_of a b }
 {
-    if a != a {
-        return b;
-    }
-    if a < b { b } else { a }
+    if a.is_nan() || a < b { b } else { a }
 }
 
 // ---- bits
 
-// The value of any pattern: a NaN's pattern gives the NaN.
+// The value of any pattern: a NaN's pattern, which `f64::from_bits` does not take, gives the NaN.
 pub fn of_bits(n: u64) -> f64
     ensures { result ≡ of_bits binary64 n }
 {
     let m = n % 0x8000_0000_0000_0000;
     if 0x7ff0_0000_0000_0000 < m {
-        return 0.0 / 0.0;
+        return f64::NAN;
     }
     f64::from_bits(n)
 }
 
-// The pattern of any value: of the NaN it is 7FF8000000000000, which is what `to_bits` gives.
+// The pattern of any value: of the NaN, which `f64::to_bits` does not take, it is 7FF8000000000000.
+#[tactic(auto, using(crate::proofs::Bytes::nan_pattern))]
 pub fn to_bits(x: f64) -> u64
     ensures { result ≡ to_bits binary64 x }
 {
-    if x != x {
+    if x.is_nan() {
         return 0x7ff8_0000_0000_0000;
     }
-    f64::to_bits(x)
+    x.to_bits()
 }
 
 // ---- bytes, the lowest first
-
-fn wide(b: u8) -> u64
-    ensures { (result ≡ b) × (result < 256) }
-{
-    b as u64
-}
 
 // Two bytes from `at` on.
 pub fn le_two(s: &[u8], at: usize) -> u64
     requires { at + 2 ≤ length s.now }
     ensures { (result ≡ number (slice at (at + 2) s.now)) × (result < 2 ^ 16) }
 {
-    wide(s[at]) + wide(s[at + 1]) * 0x100
+    u16::from_le_bytes([s[at], s[at + 1]]) as u64
 }
 
 // Four bytes from `at` on.
@@ -206,7 +185,7 @@ pub fn le_four(s: &[u8], at: usize) -> u64
     requires { at + 4 ≤ length s.now }
     ensures { (result ≡ number (slice at (at + 4) s.now)) × (result < 2 ^ 32) }
 {
-    le_two(s, at) + le_two(s, at + 2) * 0x1_0000
+    u32::from_le_bytes([s[at], s[at + 1], s[at + 2], s[at + 3]]) as u64
 }
 
 // Eight bytes from `at` on.
@@ -214,7 +193,16 @@ pub fn le_u64(s: &[u8], at: usize) -> u64
     requires { at + 8 ≤ length s.now }
     ensures { result ≡ number (slice at (at + 8) s.now) }
 {
-    le_four(s, at) + le_four(s, at + 4) * 0x1_0000_0000
+    u64::from_le_bytes([
+        s[at],
+        s[at + 1],
+        s[at + 2],
+        s[at + 3],
+        s[at + 4],
+        s[at + 5],
+        s[at + 6],
+        s[at + 7],
+    ])
 }
 
 // The value of eight bytes from `at` on.
@@ -225,23 +213,16 @@ pub fn le_f64(s: &[u8], at: usize) -> f64
     of_bits(le_u64(s, at))
 }
 
-fn low(n: u64) -> u8
-    ensures { result ≡ n % 256 }
-{
-    (n % 256) as u8
-}
-
 // A number as k bytes from `at` on; all else as before.
+#[tactic(auto, using(crate::proofs::Bytes::number_more))]
 pub fn put_bytes(out: &mut [u8], at: usize, k: usize, n: u64)
     requires { at + k ≤ length out.old }
     ensures { out.new ≡ sets out.old at (bytes k n) }
 {
     let mut m = n;
-    let mut j = 0;
-    while j < k {
-        out[at + j] = low(m);
-        m = m / 256;
-        j += 1;
+    for j in 0..k {
+        out[at + j] = (m % 256) as u8;
+        m /= 256;
     }
 }
 
@@ -250,7 +231,7 @@ pub fn put_u64(out: &mut [u8], at: usize, n: u64)
     requires { at + 8 ≤ length out.old }
     ensures { out.new ≡ sets out.old at (bytes 8 n) }
 {
-    put_bytes(out, at, 8, n);
+    out[at..at + 8].copy_from_slice(&n.to_le_bytes());
 }
 
 // A value as eight bytes.

@@ -1,6 +1,9 @@
--- The points of a list of nodes: how many, which stands where, and one turn of a loop over them.
+-- The points of a list of nodes: how many, and which stands where; a count that is at least 1.
 use mathlib.Core.Path.{◌≡◌, refl, ap}
+use mathlib.Core.Bool.{cond}
 use mathlib.Core.List.{List, [], ◌∷◌}
+use lib.Dec.{eqb}
+use Rattle.std.proofs.Common.{max}
 use Prim.Native.Nat.{ℕ, zero, suc, ◌+◌, ◌<◌, ◌≤◌}
 use native.Mathlib.Omega.{arith}
 use native.Mathlib.Numerals.{add-one}
@@ -23,10 +26,6 @@ points_at c [] i h = absurd (no h)
 points_at c (k ∷ ks) zero h = refl
 points_at c (k ∷ ks) (suc i) h = points_at c ks i (omega arith)
 
--- one turn of a loop over nodes, and its end
-pub points_next : (c : List Float) (ks : List ℕ) (i : ℕ) → i < length ks → points_of c (drop i ks) ≡ point_at c (get_or ks i 0) ∷ points_of c (drop (i + 1) ks)
-points_next c ks i h = rw (add-one, drop-cons ks i 0)
-
--- past the last node no point is left
-pub points_end : (c : List Float) (ks : List ℕ) (i : ℕ) → length ks ≤ i → points_of c (drop i ks) ≡ []
-points_end c ks i h = ap (points_of c) (drop_of_length-le ks h)
+-- the larger of a count and 1 is the count, or 1 where it is 0
+pub at_least_one : (n : ℕ) → max n 1 ≡ cond (eqb n 0) 1 n
+at_least_one n = grind arith

@@ -3,3 +3,4 @@ pub mod Points
 pub mod Scale
 pub mod Coordinates
 pub mod Steps
+pub mod Nodes

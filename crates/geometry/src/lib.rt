@@ -2,18 +2,21 @@
 // Each float expression is that of the Rust, in its order.
 #![tactic(auto)]
 
+mod nodes;
+
 ghost use Rattle.std.specs.Prelude.{◌≡◌, ◌*◌, ◌+◌, ◌<◌, ◌≤◌, length};
 ghost use Rattle.std.specs.Float.Ieee.{lt};
 ghost use Rattle.geometry.specs.Points.{point_sub, point_add, point_scale, point_dot, point_cross, length_of, midpoint_of, point_at, points_of, share, centre_of};
-ghost use Rattle.geometry.specs.Scale.{largest_of, scale_of, eps_of};
+ghost use Rattle.geometry.specs.Scale.{largest_of, eps_of};
 ghost use Rattle.geometry.specs.Coordinates.{count_off, tolerance_off, coordinate_off, coordinates_off};
 ghost use Rattle.geometry.specs.Steps.{InNodes};
 
-const EPSILON: f64 = 2.220446049250313e-16;
+pub use nodes::Nodes;
 
 // ---- points
 
-// A point: one value of three coordinates.
+// A point: one value of three coordinates. It goes by value, and its sums and products are functions, no operators: both forms are named by
+// document 01.
 #[derive(Clone, Copy)]
 pub struct Point {
     pub x: f64,
@@ -22,6 +25,7 @@ pub struct Point {
 }
 
 // `sub3`
+#[tactic(auto, unfolding(crate::specs::Points::point_sub))]
 pub fn difference(a: Point, b: Point) -> Point
     ensures { result ≡ point_sub a b }
 {
@@ -33,6 +37,7 @@ pub fn difference(a: Point, b: Point) -> Point
 }
 
 // `add3`
+#[tactic(auto, unfolding(crate::specs::Points::point_add))]
 pub fn plus(a: Point, b: Point) -> Point
     ensures { result ≡ point_add a b }
 {
@@ -44,6 +49,7 @@ pub fn plus(a: Point, b: Point) -> Point
 }
 
 // `scale3`
+#[tactic(auto, unfolding(crate::specs::Points::point_scale))]
 pub fn times(a: Point, s: f64) -> Point
     ensures { result ≡ point_scale a s }
 {
@@ -55,6 +61,7 @@ pub fn times(a: Point, s: f64) -> Point
 }
 
 // `dot3v`
+#[tactic(auto, unfolding(crate::specs::Points::point_dot))]
 pub fn dot(a: Point, b: Point) -> f64
     ensures { result ≡ point_dot a b }
 {
@@ -62,6 +69,7 @@ pub fn dot(a: Point, b: Point) -> f64
 }
 
 // `cross3`
+#[tactic(auto, unfolding(crate::specs::Points::point_cross))]
 pub fn cross(a: Point, b: Point) -> Point
     ensures { result ≡ point_cross a b }
 {
@@ -73,6 +81,7 @@ pub fn cross(a: Point, b: Point) -> Point
 }
 
 // The root of a · a.
+#[tactic(auto, unfolding(crate::specs::Points::length_of))]
 pub fn size(a: Point) -> f64
     ensures { result ≡ length_of a }
 {
@@ -80,6 +89,7 @@ pub fn size(a: Point) -> f64
 }
 
 // The root of a · a is above e.
+#[tactic(auto, unfolding(crate::specs::Points::length_of))]
 pub fn longer(a: Point, e: f64) -> bool
     ensures { result ≡ lt e (length_of a) }
 {
@@ -87,6 +97,7 @@ pub fn longer(a: Point, e: f64) -> bool
 }
 
 // (a + b) / 2
+#[tactic(auto, using(floats::proofs::Constants::two_bits), unfolding(crate::specs::Points::midpoint_of))]
 pub fn midpoint(a: Point, b: Point) -> Point
     ensures { result ≡ midpoint_of a b }
 {
@@ -98,6 +109,7 @@ pub fn midpoint(a: Point, b: Point) -> Point
 }
 
 // The point of a node.
+#[tactic(auto, unfolding(crate::specs::Points::point_at))]
 pub fn point3(coords: &[f64], node: u32) -> Point
     requires { node * 3 + 2 < length coords.now }
     ensures { result ≡ point_at coords.now node }
@@ -111,17 +123,16 @@ pub fn point3(coords: &[f64], node: u32) -> Point
 }
 
 // 1 / n, and 1 where n is 0.
+#[tactic(auto, using(crate::proofs::Listed::at_least_one), unfolding(crate::specs::Points::share))]
 fn share_of(n: usize) -> f64
     requires { n ≤ 9007199254740992 }
     ensures { result ≡ share n }
 {
-    if n == 0 {
-        return 1.0 / (1usize as f64);
-    }
-    1.0 / (n as f64)
+    1.0 / n.max(1) as f64
 }
 
-// The centre of nodes: the sum of their points in order, times 1 / n.
+// The centre of nodes, which the callers hold as two slices: the sum of their points in order, times 1 / n.
+#[tactic(auto, using(crate::proofs::Listed::points_length), unfolding(crate::specs::Points::centre_of))]
 pub fn key_centroid(coords: &[f64], nodes: &[u32]) -> Point
     requires { InNodes coords.now nodes.now × (length nodes.now ≤ 9007199254740992) }
     ensures { result ≡ centre_of (points_of coords.now nodes.now) }
@@ -131,10 +142,8 @@ pub fn key_centroid(coords: &[f64], nodes: &[u32]) -> Point
         y: 0.0,
         z: 0.0,
     };
-    let mut i = 0;
-    while i < nodes.len() {
-        s = plus(s, point3(coords, nodes[i]));
-        i += 1;
+    for node in nodes {
+        s = plus(s, point3(coords, *node));
     }
     times(s, share_of(nodes.len()))
 }
@@ -142,33 +151,21 @@ pub fn key_centroid(coords: &[f64], nodes: &[u32]) -> Point
 // ---- scale and eps
 
 // The largest of m and the sizes of p's coordinates.
+#[tactic(auto, using(floats::proofs::Small::absolute_is), unfolding(crate::specs::Scale::largest_of))]
 fn largest(m: f64, p: Point) -> f64
     ensures { result ≡ largest_of m p }
 {
-    let mx = floats::larger(m, floats::absolute(p.x));
-    let my = floats::larger(mx, floats::absolute(p.y));
-    floats::larger(my, floats::absolute(p.z))
-}
-
-// The largest of 1 and all |coordinate| of the nodes.
-pub fn scale(coords: &[f64], nodes: &[u32]) -> f64
-    requires { InNodes coords.now nodes.now }
-    ensures { result ≡ scale_of (points_of coords.now nodes.now) }
-{
-    let mut m = 1.0;
-    let mut i = 0;
-    while i < nodes.len() {
-        m = largest(m, point3(coords, nodes[i]));
-        i += 1;
-    }
-    m
+    let mx = floats::larger(m, p.x.abs());
+    let my = floats::larger(mx, p.y.abs());
+    floats::larger(my, p.z.abs())
 }
 
 // eps: the larger of the tolerance and 64 * 2 ^ -52 * scale.
+#[tactic(auto, unfolding(crate::specs::Scale::eps_of))]
 pub fn margin(tol: f64, scale: f64) -> f64
     ensures { result ≡ eps_of tol scale }
 {
-    floats::larger(tol, 64.0 * EPSILON * scale)
+    floats::larger(tol, 64.0 * f64::EPSILON * scale)
 }
 
 // ---- the reasons of refusals 5, 6 and 7 that look at coordinates and a tolerance
@@ -183,15 +180,17 @@ pub fn count_off(n: usize) -> bool
 }
 
 // 6: not finite, or below zero.
+#[tactic(auto, using(crate::proofs::Limited::finite_from, floats::proofs::Constants::infinity_bits, floats::proofs::Constants::zero_bits))]
 pub fn tolerance_off(tol: f64) -> bool
     ensures { result ≡ tolerance_off tol }
 {
-    let below = tol < 1.0 / 0.0;
+    let below = tol < f64::INFINITY;
     let from = 0.0 <= tol;
     !(below & from)
 }
 
 // Not finite, or beyond the limit.
+#[tactic(auto, using(crate::proofs::Limited::most_bits, crate::proofs::Limited::least_bits))]
 pub fn coordinate_off(x: f64) -> bool
     ensures { result ≡ coordinate_off x }
 {
@@ -200,15 +199,13 @@ pub fn coordinate_off(x: f64) -> bool
     !(from & to)
 }
 
-// 7: some coordinate is off.
+// 7: some coordinate is off. No early exit: so the loop becomes vector code.
 pub fn coordinates_off(coords: &[f64]) -> bool
     ensures { result ≡ coordinates_off coords.now }
 {
     let mut off = false;
-    let mut i = 0;
-    while i < coords.len() {
-        off = off | coordinate_off(coords[i]);
-        i += 1;
+    for x in coords {
+        off |= coordinate_off(*x);
     }
     off
 }

@@ -14,9 +14,6 @@ head d x e b = get_or (rest x e b) 0 d
 abbrev pub stands : List ℕ → List ℕ → List ℕ → ℕ → ℕ → Bool
 stands b from to g i = eqb (head (g + 1) (get_or from i 0) (get_or to i 0) b) g
 
-abbrev pub one : Bool → ℕ
-one b = cond b 1 0
-
 -- where run i goes on when g is taken
 abbrev pub next : List ℕ → List ℕ → List ℕ → ℕ → ℕ → ℕ
 next b from to g i = cond (stands b from to g i) (get_or from i 0 + 1) (get_or from i 0)

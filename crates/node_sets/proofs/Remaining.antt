@@ -100,8 +100,5 @@ module _ (l : Layout) (w v : List ℕ) (k : ℕ) (f : Keyed l w) (i : Left l w l
   done_most = omega (arith, i.start, f.ringed.row_last)
 
   -- with where the last ends, all is put
-  pub done_put : (x : ℕ) → x ≡ k → set v (l.at.starts + l.at.faces) x ≡ sets (sets w l.at.starts (starts_of 0 (all l w))) l.at.sets (joined (all l w))
-  done_put x e =
-      ap (set v (l.at.starts + l.at.faces)) e
-      ∙ sym (ap (λ (S : List (List ℕ)). sets (sets v (l.at.starts + l.at.faces) (starts_of k S)) (l.at.sets + k) (joined S)) none)
-      ∙ i.put
+  pub done_put : set v (l.at.starts + l.at.faces) k ≡ sets (sets w l.at.starts (starts_of 0 (all l w))) l.at.sets (joined (all l w))
+  done_put = sym (ap (λ (S : List (List ℕ)). sets (sets v (l.at.starts + l.at.faces) (starts_of k S)) (l.at.sets + k) (joined S)) none) ∙ i.put

@@ -27,7 +27,7 @@ use Rattle.findings.specs.Findings.{Rules, Finding, bowtie, overfull, partly, re
 use Rattle.findings.specs.Rules.{rules_of, full_of}
 use Rattle.findings.specs.Records.{fields_of, centre_in, record_bytes, record_of, kept_bytes}
 use Rattle.findings.specs.Check.{totals_of, Checking}
-use Rattle.std.specs.Prelude.{Result, Ok}
+use Rattle.std.specs.Prelude.{Result}
 use Rattle.refusals.specs.declared.Refusal.{Refusal}
 use Rattle.findings.specs.declared.Totals.{Totals}
 use Rattle.renumber.specs.Renumbering.{Used, word_by, renamed, record_by}

@@ -15,11 +15,11 @@ use Rattle.welding.specs.Used.{used_nodes, welds_of}
 use Rattle.findings.specs.Findings.{Finding, bowtie, overfull, partly, repeated}
 use Rattle.findings.specs.Rules.{rules_of, full_of}
 use Rattle.findings.specs.Records.{fields_of, centre_in, record_bytes, record_of, kept_of, kept_bytes}
-use Rattle.findings.specs.Check.{Totals, totals_of, check_refusal, Checking}
-use Rattle.std.specs.Prelude.{Result, Ok}
+use Rattle.findings.specs.Check.{totals_of, check_refusal, Checking}
+use Rattle.std.specs.Prelude.{Result}
 use Rattle.refusals.specs.declared.Refusal.{Refusal}
 use Rattle.findings.specs.declared.Totals.{Totals}
-use Rattle.findings.proofs.Kept.{told_same}
+use Rattle.refusals.proofs.Told.{told_same}
 use Rattle.findings.proofs.Moved.{check_refusal_lem}
 use Rattle.renumber.specs.Renumbering.{Used, Renumbering, renamed, renamed_fields, record_by}
 use Rattle.renumber.proofs.Alike.{Alike, empty, link, length_alike, take_alike}

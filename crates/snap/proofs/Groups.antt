@@ -1,6 +1,6 @@
 -- The groups: one node more, and what is taken of equal nodes.
 use Prim.Native.Nat.{ℕ, suc, ◌+◌, ◌≤◌, ◌<◌, min}
-use mathlib.Core.Path.{◌≡◌, refl, sym, ap, ◌∙◌}
+use mathlib.Core.Path.{◌≡◌, refl, ap, ◌∙◌}
 use mathlib.Core.Bool.{Bool, true, false, cond, ◌||◌}
 use mathlib.Core.List.{List, [], ◌∷◌, ◌++◌}
 use mathlib.Core.Logic.{⊎_elim}
@@ -42,21 +42,6 @@ module _ (c : List Float) (t : Float) (p : ℕ) (taken : ℕ → Bool) (l : List
 -- of no nodes none is taken
 pub takes_none : (c : List Float) (t : Float) (p : ℕ) (taken : ℕ → Bool) (l : List ℕ) (j e : ℕ) → e ≤ j → takes c t p taken (slice j e l) ≡ []
 takes_none c t p taken l j e h = ap (takes c t p taken) (slice_none j e l h)
-
--- ---- the least, one node more
-
-module _ (l : List ℕ) (j e m : ℕ) (h : j < e) (b : e ≤ length l) where
-  -- the next number, and those behind it
-  least_next : fold min m (slice j e l) ≡ fold min (min m (get_or l j 0)) (slice (j + 1) e l)
-  least_next = rw (add-one j) (ap (fold min m) (slice-cons j e l 0 h b))
-
-  -- a smaller number is the least so far
-  pub least_down : get_or l j 0 < m → fold min (get_or l j 0) (slice (j + 1) e l) ≡ fold min m (slice j e l)
-  least_down k = sym (least_next ∙ ap (λ (x : ℕ). fold min x (slice (j + 1) e l)) (omega arith))
-
-  -- another is not
-  pub least_kept : m ≤ get_or l j 0 → fold min m (slice (j + 1) e l) ≡ fold min m (slice j e l)
-  least_kept k = sym (least_next ∙ ap (λ (x : ℕ). fold min x (slice (j + 1) e l)) (omega arith))
 
 -- ---- the same nodes taken, the same groups
 

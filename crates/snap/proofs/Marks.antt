@@ -8,13 +8,12 @@ use native.Mathlib.Numerals.{add-one}
 use native.Mathlib.Omega.{arith}
 use borrow.Author.Tests.{eqb-true, eqb-false, ne_eqb}
 use lib.Dec.{eqb}
-use lib.ListN.{length, get_or, set, take, drop, replicate, length-set, length-replicate}
+use lib.ListN.{length, get_or, set, take, drop, replicate, length-set}
 use lib.Seq.{sets, get_or-set_same, get_or-set_other, take-set-le, take-set-lt, drop-set-lt, drop-set-add, drop-cons}
 use Rattle.laws.specs.Lists.{elem, up_from}
 use Rattle.laws.specs.Merging.{region, AllBelow}
 use Rattle.laws.proofs.Tests.{tested}
-use Rattle.laws.proofs.Stores.{get_or_after, region_same, sets_over}
-use Rattle.laws.proofs.ListLaws.{length-up_from}
+use Rattle.laws.proofs.Stores.{get_or_after}
 use Rattle.snap.specs.Weld.{give}
 use Rattle.snap.specs.Steps.{marked, put_all, number_of, numbers}
 
@@ -113,18 +112,9 @@ settle_step v l k i n h b =
     rw s (sym (ap (λ (r : List ℕ). sets v (k + i) (numbers i r)) (ap (λ (m : ℕ). take m (drop (k + i) l)) e ∙ ap (take (suc (n - (i + 1)))) d)
     ∙ ap (λ (j : ℕ). sets (set v (k + i) (number_of i (get_or l (k + i) 0))) (suc (k + i)) (numbers j (take (n - (i + 1)) (drop (suc (k + i)) l)))) (sym (add-one i))))
 
--- a turn of clearing
-pub clear_step : (l : List ℕ) (k i n : ℕ) → i < n → sets (set l (k + i) 0) (k + (i + 1)) (replicate (n - (i + 1)) 0) ≡ sets l (k + i) (replicate (n - i) 0)
-clear_step l k i n h =
+-- a turn of numbering
+pub number_step : (l : List ℕ) (k i n : ℕ) → i < n → sets (set l (k + i) i) (k + (i + 1)) (up_from (i + 1) (n - (i + 1))) ≡ sets l (k + i) (up_from i (n - i))
+number_step l k i n h =
     let e : n - i ≡ suc (n - (i + 1)) = omega arith in
     let s : k + (i + 1) ≡ suc (k + i) = omega arith in
-    rw s (sym (ap (λ (m : ℕ). sets l (k + i) (replicate m 0)) e))
-
--- cleared and settled, n words are numbered
-pub renumbered : (l : List ℕ) (o n : ℕ) → o + n ≤ length l → sets (sets l o (replicate n 0)) o (numbers 0 (region o n (sets l o (replicate n 0)))) ≡ sets l o (up_from 0 n)
-renumbered l o n h =
-    let z : length {A = ℕ} (replicate n 0) ≡ n = length-replicate n 0 in
-    let r : region o n (sets l o (replicate n 0)) ≡ replicate n 0 = subst (λ (m : ℕ). region o m (sets l o (replicate n 0)) ≡ replicate n 0) z (region_same l o (replicate n 0) (omega arith)) in
-    ap (λ (xs : List ℕ). sets (sets l o (replicate n 0)) o (numbers 0 xs)) r
-    ∙ ap (sets (sets l o (replicate n 0)) o) (numbers_none 0 n)
-    ∙ sets_over l o (replicate n 0) (up_from 0 n) (omega (arith, length-up_from 0 n))
+    rw (s, e, add-one i)

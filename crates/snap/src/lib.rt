@@ -20,14 +20,11 @@ pub fn clear(work: &mut [u32], k: usize, n: usize)
     requires { k + n ≤ length work.old }
     ensures { work.new ≡ sets work.old k (replicate n 0) }
 {
-    let mut i = 0;
-    while i < n {
-        work[k + i] = 0;
-        i += 1;
-    }
+    work[k..k + n].fill(0);
 }
 
 // The number that the mark w gives node i.
+#[tactic(auto, unfolding(crate::specs::Steps::number_of))]
 fn number_of(i: u32, w: u32) -> u32
     ensures { result ≡ number_of i w }
 {
@@ -42,20 +39,20 @@ fn settle(work: &mut [u32], k: usize, n: usize)
     requires { (k + n ≤ length work.old) × (n < 2 ^ 32) }
     ensures { work.new ≡ sets work.old k (numbers 0 (region k n work.old)) }
 {
-    let mut i = 0;
-    while i < n {
+    for i in 0..n {
         work[k + i] = number_of(i as u32, work[k + i]);
-        i += 1;
     }
 }
 
 // The n words from o on are 0, 1, ..
+#[tactic(auto, using(crate::proofs::Marks::number_step))]
 pub fn number(work: &mut [u32], o: usize, n: usize)
     requires { (o + n ≤ length work.old) × (n < 2 ^ 32) }
     ensures { work.new ≡ sets work.old o (up_from 0 n) }
 {
-    clear(work, o, n);
-    settle(work, o, n);
+    for i in 0..n {
+        work[o + i] = i as u32;
+    }
 }
 
 // The welded numbers of `size` nodes go to the words from k on, those of the n nodes from a on welded, for a tolerance that is not 0; the n

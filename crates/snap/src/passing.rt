@@ -85,6 +85,7 @@ fn leap(coords: &[f64], limit: f64, work: &[u32], a: Point, b: Point, j: usize, 
 {
     let mut last = j;
     let mut step: usize = 1;
+    // no `for`: the steps double
     while step < e {
         let next = step_on(coords, limit, work, a, b, j, e, last, step);
         if next == last {
@@ -112,9 +113,10 @@ fn land(
 {
     let mut last = from.last;
     let mut step = from.step / 2;
+    // no `for`: the steps halve
     while 0 < step {
         last = step_on(coords, limit, work, a, b, j, e, last, step);
-        step = step / 2;
+        step /= 2;
     }
     last
 }

@@ -18,6 +18,7 @@ fn far(a: Point, b: Point, tol: f64) -> bool
 }
 
 // The squared distance is at most tol * tol. Where the square of one difference is above that, the rest is not computed.
+#[tactic(auto, using(crate::proofs::Squares::second_above, crate::proofs::Squares::third_above), unfolding(geometry::specs::Points::point_dot, geometry::specs::Points::point_sub))]
 fn near(a: Point, b: Point, tol: f64) -> bool
     ensures { result ≡ near_points tol a b }
 {
@@ -60,6 +61,7 @@ fn takes(
     let a = geometry::point3(coords, leader);
     let mut j = i;
     let mut last = g;
+    // no `for`: the walk jumps over nodes
     while j < e {
         let n = work[j];
         let b = geometry::point3(coords, n);
@@ -90,14 +92,8 @@ fn least(work: &[u32], g: usize, e: usize) -> u32
     ensures { result ≡ leastOf (slice g e work.now) }
 {
     let mut m = work[g];
-    let mut j = g + 1;
-    while j < e {
-        if work[j] < m {
-            m = work[j];
-            j += 1;
-        } else {
-            j += 1;
-        }
+    for j in g + 1..e {
+        m = m.min(work[j]);
     }
     m
 }
@@ -107,10 +103,8 @@ fn put(work: &mut [u32], g: usize, e: usize, k: usize, size: usize, v: u32)
     requires { (g ≤ e) × (e ≤ k) × (k + size ≤ length work.old) × AllBelow size (slice g e work.old) }
     ensures { work.new ≡ put_all k v (slice g e work.old) work.old }
 {
-    let mut j = g;
-    while j < e {
+    for j in g..e {
         work[k + work[j] as usize] = v;
-        j += 1;
     }
 }
 
@@ -152,9 +146,7 @@ pub fn sweep(
     requires { (o ≤ e) × (e ≤ g) × (g + (e - o) ≤ k) × (k + size ≤ length work.old) × (size ≡ node_count coords.now) × (size < 2 ^ 32) × AllBelow size (slice o e work.old) × InOrder coords.now o e work.old × (coordinates_off coords.now ≡ false) }
     ensures { (numbers 0 (region k size work.new) ≡ weld_from coords.now tol k size o e work.old) × But g (k + size) work.old work.new }
 {
-    let mut i = o;
-    while i < e {
+    for i in o..e {
         lead(coords, tol, work, i, e, g, k, size);
-        i += 1;
     }
 }

@@ -1,2 +1,3 @@
--- Laws of sorting by insertion.
-pub mod Inserting
+-- Laws that belong to no one function.
+pub mod Copied
+pub mod Sorted

@@ -1,12 +1,8 @@
-use Prim.Native.Nat.{◌-◌, ◌≤◌}
 use mathlib.Core.Path.{◌≡◌}
-use lib.ListN.{length, drop}
+use lib.ListN.{drop}
 use Rattle.area.specs.AreaTest.{list_off}
 use Rattle.area.proofs.Refused.{off_from}
 use Rattle.area.proofs.list_off.Given as goal
 
-abbrev pub invariant-loop-i : goal.invariant-loop-i
-invariant-loop-i l = (l.i ≤ length l.nodes) × (off_from l.n l.next (drop l.i l.nodes) ≡ list_off l.n l.nodes)
-
-abbrev pub decreases-loop-i : goal.decreases-loop-i
-decreases-loop-i l = length l.nodes - l.i
+abbrev pub invariant-loop-node : goal.invariant-loop-node
+invariant-loop-node l = off_from l.n l.next (drop l.node-index l.nodes) ≡ list_off l.n l.nodes

@@ -1,41 +1,27 @@
 -- `bow_cells::cell_meets` meets its contract. The invariant: a ring that meets itself is among those left if there is one at all.
 use mathlib.Core.Path.{sym, ◌∙◌}
-use native.Mathlib.Omega.{arith}
 use lib.ListN.{take}
 use Rattle.layout.specs.ByCell.{ring_bow}
 use Rattle.bow_cells.proofs.Cells.{any_found, any_skip, any_end, whole}
 use Rattle.bow_cells.proofs.cell_meets.Goals as goal
 
 pub loop-g-init : goal.loop-g-init
-loop-g-init c =
-    let t = take c.args.l.at.bows c.args.work.now in
-    let last = c.first_face-end.ensures in
-    let first = c.first_face-g.ensures in (
-      last.1,
-      omega (arith, last.0, first.0, c.requires.0.first_rising c.args.c c.requires.2),
-      whole c.args.coords.now c.args.tol c.args.l t c.args.c _ _ first.0 last.0,
-    )
-
-pub ring_meets-requires : goal.ring_meets-requires
-ring_meets-requires c = (c.requires.0, c.requires.1, omega (arith, c.loop-g.invariant, c.loop-g-test.true))
+loop-g-init c = whole c.args.coords.now c.args.tol c.args.l (take c.args.l.at.bows c.args.work.now) c.args.c _ _ c.first_face-g.ensures.0 c.first_face-end.ensures.0
 
 pub returns-then-ring_meets : goal.returns-then-ring_meets
 returns-then-ring_meets c =
     let at = c.loop-g in
     let p = ring_bow c.args.coords.now c.args.tol c.args.l (take c.args.l.at.bows c.args.work.now) in
-    sym (any_found p c.first_face-end.result at.g c.loop-g-test.true (sym c.ring_meets.ensures ∙ c.if-ring_meets.true)) ∙ at.invariant.2
+    sym (any_found p c.first_face-end.result at.g c.loop-g-test.true (sym c.ring_meets.ensures ∙ c.if-ring_meets.true)) ∙ at.invariant
 
 pub loop-g-preserved : goal.loop-g-preserved
 loop-g-preserved c =
     let at = c.loop-g in
-    let p = ring_bow c.args.coords.now c.args.tol c.args.l (take c.args.l.at.bows c.args.work.now) in (
-      at.invariant.0,
-      omega (arith, c.loop-g-test.true),
-      sym (any_skip p c.first_face-end.result at.g c.loop-g-test.true (sym c.ring_meets.ensures ∙ c.if-ring_meets.false)) ∙ at.invariant.2,
-    )
+    let p = ring_bow c.args.coords.now c.args.tol c.args.l (take c.args.l.at.bows c.args.work.now) in
+    sym (any_skip p c.first_face-end.result at.g c.loop-g-test.true (sym c.ring_meets.ensures ∙ c.if-ring_meets.false)) ∙ at.invariant
 
 pub returns : goal.returns
 returns c =
     let at = c.loop-g in
     let p = ring_bow c.args.coords.now c.args.tol c.args.l (take c.args.l.at.bows c.args.work.now) in
-    sym (any_end p c.first_face-end.result at.g c.loop-g-test.false) ∙ at.invariant.2
+    sym (any_end p c.first_face-end.result at.g c.loop-g-test.false) ∙ at.invariant

@@ -1,4 +1,4 @@
-use Prim.Native.Nat.{◌-◌, ◌≤◌}
+use Prim.Native.Nat.{◌-◌}
 use mathlib.Core.Path.{◌≡◌}
 use lib.ListN.{take}
 use Rattle.laws.specs.Lists.{any, up_from}
@@ -6,7 +6,4 @@ use Rattle.layout.specs.ByCell.{ring_bow, cell_bow}
 use Rattle.bow_cells.proofs.cell_meets.Given as goal
 
 abbrev pub invariant-loop-g : goal.invariant-loop-g
-invariant-loop-g l = (l.end ≤ l.l.at.faces) × (l.g ≤ l.end) × (any (ring_bow l.coords l.tol l.l (take l.l.at.bows l.work)) (up_from l.g (l.end - l.g)) ≡ cell_bow l.coords l.tol l.l (take l.l.at.bows l.work) l.c)
-
-abbrev pub decreases-loop-g : goal.decreases-loop-g
-decreases-loop-g l = l.end - l.g
+invariant-loop-g l = any (ring_bow l.coords l.tol l.l (take l.l.at.bows l.work)) (up_from l.g (l.end - l.g)) ≡ cell_bow l.coords l.tol l.l (take l.l.at.bows l.work) l.c

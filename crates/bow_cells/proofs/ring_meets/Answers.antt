@@ -1,46 +1,9 @@
 -- `bow_cells::ring_meets` meets its contract: the ring in welded numbers is loaded, and tested.
-use Prim.Native.Nat.{◌+◌, ◌≤◌}
 use mathlib.Core.Path.{refl, ◌∙◌}
 use native.Mathlib.Omega.{arith}
-use lib.ListN.{length}
-use Rattle.layout.proofs.Ringing.{Ring, tables_in, rows_rise}
-use Rattle.bow_cells.proofs.Reading.{ring_ends, ring_short, part_short, ring_known, loaded, asked, answered}
+use Rattle.layout.proofs.Ringing.{Ring, tables_in}
+use Rattle.bow_cells.proofs.Reading.{ring_short, part_short, ring_known, loaded, asked, answered}
 use Rattle.bow_cells.proofs.ring_meets.Goals as goal
-
-pub overflow_sub-n : goal.overflow_sub-n
-overflow_sub-n c =
-    let ring : Ring c.args.l c.args.work.now c.args.g c.ring_row-s.result c.ring_row-e.result = let s = c in
-    record { ringed = s.requires.0; face = s.requires.2; from = c.ring_row-s.ensures.0; to = c.ring_row-e.ensures.0 } in
-    let lies : (c.ring_row-s.result ≤ c.ring_row-e.result) × (c.args.l.rings + c.ring_row-e.result ≤ length c.args.work.now) = (rows_rise ring, omega (arith, ring_ends ring, tables_in c.args.l c.args.work.now c.requires.0)) in
-    omega (arith, lies)
-
-pub offset_bounds-work-start : goal.offset_bounds-work-start
-offset_bounds-work-start c =
-    let ring : Ring c.args.l c.args.work.now c.args.g c.ring_row-s.result c.ring_row-e.result = let s = c in
-    record { ringed = s.requires.0; face = s.requires.2; from = c.ring_row-s.ensures.0; to = c.ring_row-e.ensures.0 } in
-    let lies : (c.ring_row-s.result ≤ c.ring_row-e.result) × (c.args.l.rings + c.ring_row-e.result ≤ length c.args.work.now) = (rows_rise ring, omega (arith, ring_ends ring, tables_in c.args.l c.args.work.now c.requires.0)) in
-    omega (arith, lies)
-
-pub slice_bounds-put_welded-count : goal.slice_bounds-put_welded-count
-slice_bounds-put_welded-count c =
-    let ring : Ring c.args.l c.args.work.now c.args.g c.ring_row-s.result c.ring_row-e.result = let s = c in
-    record { ringed = s.requires.0; face = s.requires.2; from = c.ring_row-s.ensures.0; to = c.ring_row-e.ensures.0 } in
-    let lies : (c.ring_row-s.result ≤ c.ring_row-e.result) × (c.args.l.rings + c.ring_row-e.result ≤ length c.args.work.now) = (rows_rise ring, omega (arith, ring_ends ring, tables_in c.args.l c.args.work.now c.requires.0)) in
-    omega (arith, lies)
-
-pub slice_bounds-put_welded-start : goal.slice_bounds-put_welded-start
-slice_bounds-put_welded-start c =
-    let ring : Ring c.args.l c.args.work.now c.args.g c.ring_row-s.result c.ring_row-e.result = let s = c in
-    record { ringed = s.requires.0; face = s.requires.2; from = c.ring_row-s.ensures.0; to = c.ring_row-e.ensures.0 } in
-    let lies : (c.ring_row-s.result ≤ c.ring_row-e.result) × (c.args.l.rings + c.ring_row-e.result ≤ length c.args.work.now) = (rows_rise ring, omega (arith, ring_ends ring, tables_in c.args.l c.args.work.now c.requires.0)) in
-    omega (arith, lies)
-
-pub slice_bounds-put_welded-end : goal.slice_bounds-put_welded-end
-slice_bounds-put_welded-end c =
-    let ring : Ring c.args.l c.args.work.now c.args.g c.ring_row-s.result c.ring_row-e.result = let s = c in
-    record { ringed = s.requires.0; face = s.requires.2; from = c.ring_row-s.ensures.0; to = c.ring_row-e.ensures.0 } in
-    let lies : (c.ring_row-s.result ≤ c.ring_row-e.result) × (c.args.l.rings + c.ring_row-e.result ≤ length c.args.work.now) = (rows_rise ring, omega (arith, ring_ends ring, tables_in c.args.l c.args.work.now c.requires.0)) in
-    omega (arith, lies)
 
 pub put_welded-requires : goal.put_welded-requires
 put_welded-requires c =

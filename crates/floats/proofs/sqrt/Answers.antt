@@ -6,14 +6,11 @@ use native.Mathlib.Omega.{arith}
 use lib.Dec.{lit≤, lit<}
 use lib.Ieee.{div, of_bits}
 use Rattle.floats.proofs.Scaled.{moved}
-use Rattle.floats.proofs.Cases.{sqrt-nan, only_nan, not_nan, exponent_of, significand_of, exponent_lt, significand_lt, at_zero, negative_low, negative_other, at_top, positive_low, positive_mid, zeros_of, Normal, normal, placed}
+use Rattle.floats.proofs.Cases.{sqrt-nan, nan_is, number_is, exponent_of, significand_of, exponent_lt, significand_lt, at_zero, negative_low, negative_other, at_top, positive_low, positive_mid, zeros_of, Normal, normal, placed}
 use Rattle.floats.proofs.sqrt.Goals as goal
 
-pub returns-then-x : goal.returns-then-x
-returns-then-x c = sqrt-nan c.args.x (only_nan c.args.x c.if-x.true)
-
-pub float_to_bits-bits : goal.float_to_bits-bits
-float_to_bits-bits c = not_nan c.args.x c.if-x.false
+pub returns-then-is_nan : goal.returns-then-is_nan
+returns-then-is_nan c = sqrt-nan c.args.x (nan_is c.args.x (sym c.is_nan.ensures.value ∙ c.if-is_nan.true))
 
 pub returns-then-significand-eq0 : goal.returns-then-significand-eq0
 returns-then-significand-eq0 c = at_zero c.args.x c.well_formed.0.1 c.if-exponent-eq0.true c.if-significand-eq0.true
@@ -64,10 +61,10 @@ returns-then-exponent-eq0 c =
 
 pub returns-then-sign-eq1-2 : goal.returns-then-sign-eq1-2
 unfolding div of_bits
-returns-then-sign-eq1-2 c = sym (negative_other c.args.x c.well_formed.0.1 c.if-exponent-eq0.false c.if-sign-eq1-2.true (not_nan c.args.x c.if-x.false))
+returns-then-sign-eq1-2 c = sym (negative_other c.args.x c.well_formed.0.1 c.if-exponent-eq0.false c.if-sign-eq1-2.true (number_is c.args.x (sym c.is_nan.ensures.value ∙ c.if-is_nan.false)))
 
 pub returns-then-exponent-eq2047 : goal.returns-then-exponent-eq2047
-returns-then-exponent-eq2047 c = at_top c.args.x c.well_formed.0.1 c.if-exponent-eq2047.true c.if-sign-eq1-2.false (not_nan c.args.x c.if-x.false)
+returns-then-exponent-eq2047 c = at_top c.args.x c.well_formed.0.1 c.if-exponent-eq2047.true c.if-sign-eq1-2.false (number_is c.args.x (sym c.is_nan.ensures.value ∙ c.if-is_nan.false))
 
 pub overflow_add-significand : goal.overflow_add-significand
 overflow_add-significand c = omega (arith, significand_lt c.args.x)

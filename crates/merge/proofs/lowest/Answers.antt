@@ -2,14 +2,13 @@
 use Prim.Native.Nat.{ℕ, ◌≤◌}
 use mathlib.Core.Path.{◌≡◌, subst}
 use native.Mathlib.Omega.{arith}
-use borrow.Author.Rules.{rules}
 use borrow.Author.Count.{below_more}
 use lib.ListN.{get_or}
 use Rattle.merge.specs.Runs.{head, Lowest}
 use Rattle.merge.proofs.lowest.Goals as goal
 
 pub loop-i-init : goal.loop-i-init
-loop-i-init c = (search rules, record { top = omega arith; low = λ i h. absurd (omega arith); high = λ m h f. h })
+loop-i-init c = record { top = omega arith; low = λ i h. absurd (omega arith); high = λ m h f. h }
 
 pub head_of-requires : goal.head_of-requires
 head_of-requires c = c.requires.1 c.loop-i.i c.loop-i-test.true
@@ -18,18 +17,16 @@ pub loop-i-preserved : goal.loop-i-preserved
 loop-i-preserved c =
     let a = c.args in
     let l = c.loop-i in
-    let v = c.lower-r.ensures in
-    let e = c.head_of.ensures in (
-      omega arith,
-      record {
-        top = omega (arith, v.0, l.invariant.1.top);
-        low = below_more (λ (j : ℕ). c.lower-r.result ≤ head a.d (get_or a.from.now j 0) (get_or a.to.now j 0) a.base.now) l.i (λ j h. omega (arith, v.0, l.invariant.1.low j h)) (omega (arith, v.1, e));
-        high = λ m h f. v.2 m (l.invariant.1.high m h (λ j z. f j (omega arith))) (omega (arith, f l.i (omega arith), e));
-      },
-    )
+    let v = c.min-r.ensures in
+    let e = c.head_of.ensures in
+    record {
+      top = omega (arith, l.invariant.top);
+      low = below_more (λ (j : ℕ). c.min-r.result ≤ head a.d (get_or a.from.now j 0) (get_or a.to.now j 0) a.base.now) l.i (λ j h. omega (arith, l.invariant.low j h)) (omega arith);
+      high = λ m h f. omega (arith, l.invariant.high m h (λ j z. f j (omega arith)), f l.i (omega arith));
+    }
 
 pub returns : goal.returns
 returns c =
     let a = c.args in
     let e : c.loop-i.i ≡ a.k = omega arith in
-    subst (λ (k : ℕ). Lowest k a.base.now a.from.now a.to.now a.d c.loop-i.r) e c.loop-i.invariant.1
+    subst (λ (k : ℕ). Lowest k a.base.now a.from.now a.to.now a.d c.loop-i.r) e c.loop-i.invariant

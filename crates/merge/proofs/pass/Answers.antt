@@ -6,7 +6,6 @@ use mathlib.Core.Bool.{Bool, true, false, cond}
 use native.Mathlib.Omega.{arith}
 use native.Mathlib.Numerals.{add-one}
 use native.Mathlib.Nat.{zero-add}
-use borrow.Author.Rules.{rules}
 use lib.ListN.{length, get_or, set, length-append}
 use lib.Seq.{sets}
 use lib.Dec.{eqb}
@@ -14,16 +13,17 @@ use Rattle.laws.specs.Lists.{keep, up_from, only_if}
 use Rattle.laws.proofs.Stores.{sets_snoc, get_or_after}
 use Rattle.laws.proofs.ListLaws.{up_from_snoc, keep_append, keep-length, length-up_from}
 use Rattle.counting.proofs.CountLaws.{length_numbered}
-use Rattle.merge.specs.Runs.{head, one, stands, next}
+use mir.Val.{bool_byte}
+use Rattle.merge.specs.Runs.{head, stands, next}
 use Rattle.merge.proofs.pass.Goals as goal
 
 -- at most one
-one_le : (b : Bool) → one b ≤ 1
+one_le : (b : Bool) → bool_byte b ≤ 1
 one_le true = omega arith
 one_le false = omega arith
 
 -- a test counted
-one_is : (b : Bool) (i : ℕ) → length (only_if b (i ∷ []) ++ []) ≡ one b
+one_is : (b : Bool) (i : ℕ) → length (only_if b (i ∷ []) ++ []) ≡ bool_byte b
 one_is true i = refl
 one_is false i = refl
 
@@ -32,7 +32,7 @@ up_to : (i : ℕ) → up_from 0 (i + 1) ≡ up_from 0 i ++ (i ∷ [])
 up_to i = ap (up_from 0) (add-one i) ∙ up_from_snoc 0 i ∙ ap (λ (j : ℕ). up_from 0 i ++ (j ∷ [])) (zero-add i)
 
 -- one test more
-counted : (q : ℕ → Bool) (i : ℕ) → length (keep q (up_from 0 (i + 1))) ≡ length (keep q (up_from 0 i)) + one (q i)
+counted : (q : ℕ → Bool) (i : ℕ) → length (keep q (up_from 0 (i + 1))) ≡ length (keep q (up_from 0 i)) + bool_byte (q i)
 counted q i =
     ap (λ (l : List ℕ). length (keep q l)) (up_to i) ∙ ap length (keep_append q (up_from 0 i) (i ∷ []))
     ∙ length-append (keep q (up_from 0 i)) (keep q (i ∷ [])) ∙ ap (λ (k : ℕ). length (keep q (up_from 0 i)) + k) (one_is (q i) i)
@@ -61,35 +61,19 @@ module _ (base from₀ to : List ℕ) (g i : ℕ) (from : List ℕ) (e : from �
       ∙ sym (sets_snoc from₀ 0 (map f (up_from 0 i)) (f i))
       ∙ ap (sets from₀ 0) (sym (map-append f (up_from 0 i) (i ∷ [])) ∙ ap (map f) (sym (up_to i)))
 
-pub loop-i-init : goal.loop-i-init
-loop-i-init c = (search rules, refl, refl)
-
-pub pass_one-n-requires : goal.pass_one-n-requires
-pass_one-n-requires c = (omega (arith, c.requires.ends.0), c.requires.ends.1 c.loop-i.i c.loop-i-test.true, c.requires.g_bound)
-
 pub overflow_add-n : goal.overflow_add-n
 overflow_add-n c =
     let a = c.args in
     let l = c.loop-i in
-    omega (arith, c.requires.ends.0, l.invariant.1, keep-length (stands a.base.now a.from.now a.to.now a.g) (up_from 0 l.i), length-up_from 0 l.i, c.pass_one-n.ensures.value, one_le (stands a.base.now l.from a.to.now a.g l.i))
+    omega (arith, c.requires.ends.0, l.invariant.0, keep-length (stands a.base.now a.from.now a.to.now a.g) (up_from 0 l.i), length-up_from 0 l.i, one_le c.pass_one.result)
 
 pub loop-i-preserved : goal.loop-i-preserved
 loop-i-preserved c =
     let a = c.args in
     let l = c.loop-i in (
-      omega arith,
-      ap (λ (m : ℕ). m + c.pass_one-n.result) l.invariant.1
-          ∙ ap (λ (m : ℕ). length (keep (stands a.base.now a.from.now a.to.now a.g) (up_from 0 l.i)) + m) (c.pass_one-n.ensures.value ∙ ap one (stands_same a.base.now a.from.now a.to.now a.g l.i l.from l.invariant.2))
+      ap (λ (m : ℕ). m + c.from-n.result) l.invariant.0
+          ∙ ap (λ (m : ℕ). length (keep (stands a.base.now a.from.now a.to.now a.g) (up_from 0 l.i)) + m)
+          (c.from-n.ensures ∙ ap bool_byte (c.pass_one.ensures.value ∙ stands_same a.base.now a.from.now a.to.now a.g l.i l.from l.invariant.1))
           ∙ sym (counted (stands a.base.now a.from.now a.to.now a.g) l.i),
-      c.pass_one-n.ensures.from_after ∙ stored a.base.now a.from.now a.to.now a.g l.i l.from l.invariant.2,
+      c.pass_one.ensures.from_after ∙ stored a.base.now a.from.now a.to.now a.g l.i l.from l.invariant.1,
     )
-
-pub returns : goal.returns
-returns c =
-    let a = c.args in
-    let l = c.loop-i in
-    let e : l.i ≡ a.k = omega arith in
-    record {
-      value = l.invariant.1 ∙ ap (λ (k : ℕ). length (keep (stands a.base.now a.from.now a.to.now a.g) (up_from 0 k))) e;
-      from_after = l.invariant.2 ∙ ap (λ (k : ℕ). sets a.from.now 0 (map (next a.base.now a.from.now a.to.now a.g) (up_from 0 k))) e;
-    }

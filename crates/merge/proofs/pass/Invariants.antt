@@ -1,4 +1,3 @@
-use Prim.Native.Nat.{◌-◌, ◌≤◌}
 use mathlib.Core.Path.{◌≡◌}
 use mathlib.Core.List.{map}
 use lib.ListN.{length}
@@ -8,7 +7,4 @@ use Rattle.merge.specs.Runs.{stands, next}
 use Rattle.merge.proofs.pass.Given as goal
 
 abbrev pub invariant-loop-i : goal.invariant-loop-i
-invariant-loop-i l = (l.i ≤ l.k) × (l.n ≡ length (keep (stands l.base l.initial.from l.to l.g) (up_from 0 l.i))) × (l.from ≡ sets l.initial.from 0 (map (next l.base l.initial.from l.to l.g) (up_from 0 l.i)))
-
-abbrev pub decreases-loop-i : goal.decreases-loop-i
-decreases-loop-i l = l.k - l.i
+invariant-loop-i l = (l.n ≡ length (keep (stands l.base l.initial.from l.to l.g) (up_from 0 l.i))) × (l.from ≡ sets l.initial.from 0 (map (next l.base l.initial.from l.to l.g) (up_from 0 l.i)))

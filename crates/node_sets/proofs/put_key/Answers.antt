@@ -11,11 +11,6 @@ use Rattle.layout.proofs.Ringing.{Ring, rows_rise, rows_within, ring_is, ring_lo
 use Rattle.node_sets.proofs.Keys.{sorted_there}
 use Rattle.node_sets.proofs.put_key.Goals as goal
 
-pub overflow_sub-n : goal.overflow_sub-n
-overflow_sub-n c =
-    let ring : Ring c.args.l c.args.work.now c.args.g c.ring_row-s.result c.ring_row-e.result = record { ringed = c.requires.0; face = c.requires.3; from = c.ring_row-s.ensures.0; to = c.ring_row-e.ensures.0 } in
-    rows_rise ring
-
 pub returns : goal.returns
 returns c =
     let ring : Ring c.args.l c.args.work.now c.args.g c.ring_row-s.result c.ring_row-e.result = let s = c in

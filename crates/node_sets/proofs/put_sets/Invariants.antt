@@ -1,9 +1,5 @@
-use Prim.Native.Nat.{◌-◌, ◌≤◌}
 use Rattle.node_sets.proofs.Remaining.{Left}
 use Rattle.node_sets.proofs.put_sets.Given as goal
 
 abbrev pub invariant-loop-g : goal.invariant-loop-g
-invariant-loop-g l = (l.g ≤ l.faces) × Left l.l l.initial.work l.g l.k l.work
-
-abbrev pub decreases-loop-g : goal.decreases-loop-g
-decreases-loop-g l = l.faces - l.g
+invariant-loop-g l = Left l.l l.initial.work l.g l.k l.work

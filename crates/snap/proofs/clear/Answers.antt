@@ -1,33 +1,18 @@
--- What is left to be cleared, put at k + i, is all zeros.
-use Rattle.snap.proofs.Marks.{clear_step}
-use native.Mathlib.Nat.{add-zero}
-use lib.Seq.{sets}
-use lib.ListN.{length-set, replicate}
-use mathlib.Core.Path.{◌≡◌, refl, sym, ap, ◌∙◌}
-use Prim.Native.Nat.{ℕ, ◌+◌, ◌-◌}
+-- `snap::clear` meets its contract: the part that was lent for the run comes back as n zeros.
+use Prim.Native.Nat.{ℕ, ◌+◌, ◌-◌, ◌≤◌}
+use mathlib.Core.Path.{◌≡◌, ap, ◌∙◌}
+use mathlib.Core.List.{List, ◌++◌}
 use native.Mathlib.Omega.{arith}
-use borrow.Author.Rules.{rules}
+use lib.ListN.{length, take, drop, replicate, length-replicate, length-take, length-drop}
+use Rattle.laws.proofs.Stores.{lent_sets}
 use Rattle.snap.proofs.clear.Goals as goal
-
-pub loop-i-init : goal.loop-i-init
-loop-i-init c =
-    let a = c.args in
-    let e : a.n - 0 ≡ a.n = omega arith in (
-      search rules,
-      refl,
-      ap (λ (m : ℕ). sets a.work.now (a.k + 0) (replicate m 0)) e ∙ ap (λ (o : ℕ). sets a.work.now o (replicate a.n 0)) (add-zero a.k),
-    )
-
-pub loop-i-preserved : goal.loop-i-preserved
-loop-i-preserved c =
-    let a = c.args in
-    (omega arith, simp length-set c.loop-i.invariant.1, clear_step c.loop-i.work a.k c.loop-i.i a.n (omega arith) ∙ c.loop-i.invariant.2)
-
-pub shape_of-work : goal.shape_of-work
-shape_of-work c = c.loop-i.invariant.1
 
 pub returns : goal.returns
 returns c =
     let a = c.args in
-    let e : a.n - c.loop-i.i ≡ 0 = omega arith in
-    ap (λ (m : ℕ). sets c.loop-i.work (a.k + c.loop-i.i) (replicate m 0)) (sym e) ∙ c.loop-i.invariant.2
+    let w = a.work.now in
+    let h : a.k + a.n ≤ length w = c.requires in
+    let n : length (take (a.k + a.n - a.k) (drop a.k w)) ≡ a.n = simp (length-take, length-drop) (omega arith) in
+    let e : c.fill.new.self ≡ replicate a.n 0 = c.fill.ensures.after (λ y e. e) ∙ ap (λ (k : ℕ). replicate k 0) n in
+    ap (λ (x : List ℕ). take a.k w ++ (x ++ drop (a.k + a.n - a.k) (drop a.k w))) e
+    ∙ lent_sets a.n w (replicate a.n 0) a.k (length-replicate a.n 0) c.requires

@@ -1,11 +1,6 @@
 -- The sort, the cleared marks, the sweep and the settling, on lists: Whole.
-use native.Mathlib.Omega.{arith}
 use Rattle.snap.proofs.Whole.{Lent, sweep_asks, all_settled}
 use Rattle.snap.proofs.weld_in.Goals as goal
-
-pub sort-requires : goal.sort-requires
-sort-requires c =
-    let p = c.requires in (p.0, omega arith, rw (← p.3) p.5, p.6)
 
 pub sweep-requires : goal.sweep-requires
 sweep-requires c =

@@ -1,7 +1,5 @@
 -- Where the step is taken the test says that all up to there are passed over.
 use Prim.Native.Nat.{◌+◌, ◌<◌}
-use mathlib.Core.Path.{sym, ◌∙◌}
-use mathlib.Core.Logic.{inr}
 use native.Mathlib.Omega.{arith}
 use Rattle.snap.proofs.Parts.{in_slice}
 use Rattle.snap.proofs.passing.step_on.Goals as goal
@@ -12,6 +10,3 @@ point3-m-requires c =
     let k : a.last + a.step < a.e = omega arith in
     let h = in_slice _ a.j a.e (a.last + a.step) a.work.now c.requires.2 c.requires.3 (omega arith) k in
     omega arith
-
-pub returns-then-passed : goal.returns-then-passed
-returns-then-passed c = (omega arith, omega arith, inr (rw (← c.point3-m.ensures) (sym c.passed.ensures ∙ c.if-passed.true)))

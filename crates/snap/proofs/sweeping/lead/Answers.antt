@@ -1,18 +1,7 @@
 -- The group that the leader's turn puts at g, and marks (Turn).
-use mathlib.Core.Path.{refl, ◌∙◌}
 use native.Mathlib.Omega.{arith}
-use Rattle.snap.proofs.Turn.{Leading, leader_node, skipped, takes_asks, size_is, least_asks, least_below, put_asks, turned}
+use Rattle.snap.proofs.Turn.{Leading, takes_asks, least_asks, least_below, put_asks, turned}
 use Rattle.snap.proofs.sweeping.lead.Goals as goal
-
-pub taken-requires : goal.taken-requires
-taken-requires c =
-    let leading : Leading c.args.coords.now c.args.tol c.args.work.now c.args.i c.args.e c.args.g c.args.k c.args.size = record { some = c.requires.0; before = c.requires.1; room = c.requires.2; marks = c.requires.3; nodes = c.requires.6 } in
-    omega (arith, leader_node leading, c.requires.3)
-
-pub returns-then-taken : goal.returns-then-taken
-returns-then-taken c =
-    let leading : Leading c.args.coords.now c.args.tol c.args.work.now c.args.i c.args.e c.args.g c.args.k c.args.size = record { some = c.requires.0; before = c.requires.1; room = c.requires.2; marks = c.requires.3; nodes = c.requires.6 } in
-    (skipped leading c.taken.ensures c.if-taken.true, (refl, refl))
 
 pub takes-end-requires : goal.takes-end-requires
 takes-end-requires c =
@@ -33,11 +22,6 @@ pub put-requires : goal.put-requires
 put-requires c =
     let leading : Leading c.args.coords.now c.args.tol c.args.work.now c.args.i c.args.e c.args.g c.args.k c.args.size = record { some = c.requires.0; before = c.requires.1; room = c.requires.2; marks = c.requires.3; nodes = c.requires.6 } in
     put_asks leading c.takes-end.ensures
-
-pub shape_of-work : goal.shape_of-work
-shape_of-work c =
-    let leading : Leading c.args.coords.now c.args.tol c.args.work.now c.args.i c.args.e c.args.g c.args.k c.args.size = record { some = c.requires.0; before = c.requires.1; room = c.requires.2; marks = c.requires.3; nodes = c.requires.6 } in
-    c.put.auto.work ∙ size_is leading c.takes-end.ensures
 
 pub returns : goal.returns
 returns c =

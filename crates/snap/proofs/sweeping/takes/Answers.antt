@@ -2,11 +2,8 @@
 use Prim.Native.Nat.{◌≤◌, ◌<◌, ◌/◌}
 use native.Mathlib.Omega.{arith}
 use lib.ListN.{length, get_or}
-use Rattle.snap.proofs.Taking.{begun, ended, is_node, skipped, jumped, stopped, joined, past_asks}
+use Rattle.snap.proofs.Taking.{is_node, skipped, jumped, stopped, joined, past_asks}
 use Rattle.snap.proofs.sweeping.takes.Goals as goal
-
-pub loop-j-init : goal.loop-j-init
-loop-j-init c = begun _ _ _ _ _ _ _ c.requires.0
 
 pub point3-b-requires : goal.point3-b-requires
 point3-b-requires c =
@@ -24,9 +21,6 @@ pub loop-j-preserved-then-taken : goal.loop-j-preserved-then-taken
 loop-j-preserved-then-taken c =
     let in_work : c.args.e ≤ length c.args.work.now = omega (arith, c.requires.1, c.requires.2, c.requires.3) in
     skipped c.loop-j.invariant c.loop-j-test.true c.requires.1 in_work c.taken.ensures c.if-taken.true
-
-pub shape_of-work-else-taken : goal.shape_of-work-else-taken
-shape_of-work-else-taken c = c.loop-j.invariant.size
 
 pub returns-else-taken : goal.returns-else-taken
 returns-else-taken c =
@@ -60,17 +54,7 @@ past-j-requires c =
     c.point3-a.ensures c.point3-b.ensures
     c.far.ensures c.if-far.false c.near.ensures c.if-near.false c.requires.4 c.requires.5 c.requires.6 c.requires.7
 
-pub loop-j-smaller : goal.loop-j-smaller
-loop-j-smaller c =
-    let h = c.past-j.ensures in omega arith
-
 pub loop-j-preserved : goal.loop-j-preserved
 loop-j-preserved c =
     let in_work : c.args.e ≤ length c.args.work.now = omega (arith, c.requires.1, c.requires.2, c.requires.3) in
     jumped c.loop-j.invariant c.loop-j-test.true c.requires.1 in_work c.past-j.result c.past-j.ensures
-
-pub shape_of-work : goal.shape_of-work
-shape_of-work c = c.loop-j.invariant.size
-
-pub returns : goal.returns
-returns c = ended c.loop-j.invariant (omega arith)

@@ -1,2 +1,0 @@
--- For internal contracts.
-pub mod Seat
