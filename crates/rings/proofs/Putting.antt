@@ -1,98 +1,102 @@
--- Runs of stores, one right behind the other.
-use Prim.Native.Nat.{ℕ, zero, suc, ◌+◌, ◌*◌, ◌≤◌, ◌<◌}
-use mathlib.Core.Path.{◌≡◌, refl, sym, ap, ap₂, ◌∙◌}
-use mathlib.Core.List.{List, [], ◌∷◌, ◌++◌}
+-- Rings put one after the other.
+use Prim.Native.Nat.{ℕ, ◌+◌, ◌≤◌, ◌<◌}
+use mathlib.Core.Path.{◌≡◌, sym, ap, ap₂, ◌∙◌, subst}
+use mathlib.Core.Bool.{false}
+use mathlib.Core.List.{List, [], ◌∷◌, ◌++◌, append-nil}
 use native.Mathlib.Omega.{arith}
-use lib.ListN.{length, get_or, set, length-set, length-append}
-use lib.Seq.{sets, length-sets}
-use Rattle.laws.specs.Lists.{each}
+use borrow.Author.Tests.{leb-false}
+use lib.Dec.{leb}
+use lib.ListN.{length}
+use lib.Seq.{sets}
+use Rattle.std.specs.List.{All}
+use Rattle.std.proofs.lemmas.List.Elements.{All-nil, All-cons}
+use Rattle.laws.specs.Lists.{any, each}
+use Rattle.laws.proofs.ListLaws.{each_append}
 use Rattle.laws.proofs.Stores.{sets_append}
-use Rattle.mesh.specs.Rings.{at, hex_rings}
+use Rattle.laws.proofs.Tests.{or_none}
+use Rattle.mesh.specs.Steps.{ring_total}
+use Rattle.mesh.proofs.CellTallies.{total_append}
+use Rattle.rings.specs.Put.{RingsPut}
 
--- xs stands from o on, and ys is put right behind it
-pub put_next : (l x y : List ℕ) (o p : ℕ) (xs ys : List ℕ) → x ≡ sets l o xs → y ≡ sets x p ys → p ≡ o + length xs → y ≡ sets l o (xs ++ ys)
-put_next l x y o p xs ys e f q = f ∙ ap₂ (λ (w : List ℕ) (k : ℕ). sets w k ys) e q ∙ sym (sets_append l o xs ys)
+-- the words of rings
+abbrev pub flat : List (List ℕ) → List ℕ
+flat rs = each (λ r. r) rs
 
--- three and four stores, of values that are known
-module _ (l : List ℕ) (o : ℕ) where
-  three_stores : (a b c : ℕ) → set (set (set l o a) (o + 1) b) (o + 2) c ≡ sets l o (a ∷ b ∷ c ∷ [])
-  three_stores a b c =
-      let p : o + 1 ≡ suc o = omega arith in
-      let q : o + 2 ≡ suc (suc o) = omega arith in
-      rw (p, q)
+-- rings stand, and others right behind them
+pub put_both : (l x out : List ℕ) (o k n : ℕ) (rs ss : List (List ℕ)) → RingsPut rs l x o k → RingsPut ss x out k n → RingsPut (rs ++ ss) l out o n
+put_both l x out o k n rs ss a b =
+    let h : k ≡ o + length (flat rs) = a.0 in (
+      omega (arith, a.0, b.0, total_append rs ss),
+      b.1
+          ∙ ap₂ (λ (w : List ℕ) (j : ℕ). sets w j (flat ss)) a.1 h
+          ∙ sym (sets_append l o (flat rs) (flat ss))
+          ∙ ap (sets l o) (sym (each_append (λ (r : List ℕ). r) rs ss)),
+    )
 
-  four_stores : (a b c d : ℕ) → set (set (set (set l o a) (o + 1) b) (o + 2) c) (o + 3) d ≡ sets l o (a ∷ b ∷ c ∷ d ∷ [])
-  four_stores a b c d =
-      let p : o + 3 ≡ suc (suc (suc o)) = omega arith in
-      ap (λ (k : ℕ). set (set (set (set l o a) (o + 1) b) (o + 2) c) k d) p ∙ ap (λ (w : List ℕ). set w (suc (suc (suc o))) d) (three_stores a b c)
+-- what was put, with the rings that are left, is all
+pub record Putting (l out : List ℕ) (o k : ℕ) (all rest : List (List ℕ)) : Type 0 where
+  pub put : sets out k (flat rest) ≡ sets l o (flat all)
+  pub place : k + ring_total rest ≡ o + ring_total all
 
-  pub put_three : {a b c x y z : ℕ} → a ≡ x → b ≡ y → c ≡ z → set (set (set l o a) (o + 1) b) (o + 2) c ≡ sets l o (x ∷ y ∷ z ∷ [])
-  put_three {x = x} {y = y} {z = z} p q r = rw (p, q, r) (three_stores x y z)
+pub putting_start : (l : List ℕ) (o : ℕ) (all rest : List (List ℕ)) → rest ≡ all → Putting l l o o all rest
+putting_start l o all rest e = record { put = ap (λ (r : List (List ℕ)). sets l o (flat r)) e; place = ap (λ (r : List (List ℕ)). o + ring_total r) e }
 
-  pub put_four : {a b c d x y z u : ℕ} → a ≡ x → b ≡ y → c ≡ z → d ≡ u
-      → set (set (set (set l o a) (o + 1) b) (o + 2) c) (o + 3) d ≡ sets l o (x ∷ y ∷ z ∷ u ∷ [])
-  put_four {x = x} {y = y} {z = z} {u = u} p q r s = rw (p, q, r, s) (four_stores x y z u)
+module _ {l out : List ℕ} {o k : ℕ} {all rest : List (List ℕ)} (p : Putting l out o k all rest) (now later : List (List ℕ)) (is : rest ≡ now ++ later) where
+  total_left : ring_total rest ≡ ring_total now + ring_total later
+  total_left = ap ring_total is ∙ total_append now later
 
-  -- they keep the list's length
-  pub one_kept : (a : ℕ) → length (set l o a) ≡ length l
-  one_kept a = length-set l o a
+  -- there is room for the next rings
+  pub putting_room : o + ring_total all ≤ length l → length out ≡ length l → k + ring_total now ≤ length out
+  putting_room h e = omega (arith, total_left, p.place)
 
-  pub two_kept : (a b : ℕ) → length (set (set l o a) (o + 1) b) ≡ length l
-  two_kept a b = length-set (set l o a) (o + 1) b ∙ one_kept a
+  -- they are put
+  pub putting_next : (out' : List ℕ) (k' : ℕ) → out' ≡ sets out k (flat now) → k' ≡ k + ring_total now → Putting l out' o k' all later
+  putting_next out' k' a b = record {
+    put =
+        ap₂ (λ (w : List ℕ) (j : ℕ). sets w j (flat later)) a b
+        ∙ sym (sets_append out k (flat now) (flat later))
+        ∙ ap (sets out k) (sym (ap flat is ∙ each_append (λ (r : List ℕ). r) now later))
+        ∙ p.put;
+    place = omega (arith, b, total_left, p.place);
+  }
 
-  pub three_kept : (a b c : ℕ) → length (set (set (set l o a) (o + 1) b) (o + 2) c) ≡ length l
-  three_kept a b c = length-set (set (set l o a) (o + 1) b) (o + 2) c ∙ two_kept a b
+-- one ring is put
+pub putting_one : {l out : List ℕ} {o k : ℕ} {all rest : List (List ℕ)} → Putting l out o k all rest → (r : List ℕ) (later : List (List ℕ)) → rest ≡ r ∷ later
+    → (out' : List ℕ) (k' : ℕ) → out' ≡ sets out k r → k' ≡ k + length r → Putting l out' o k' all later
+putting_one {out = out} {k = k} p r later is out' k' a b =
+    let e = append-nil r in
+    putting_next p (r ∷ []) later is out' k' (a ∙ ap (sets out k) (sym e)) (b ∙ ap (λ (v : List ℕ). k + length v) (sym e))
 
-  pub four_kept : (a b c d : ℕ) → length (set (set (set (set l o a) (o + 1) b) (o + 2) c) (o + 3) d) ≡ length l
-  four_kept a b c d = length-set (set (set (set l o a) (o + 1) b) (o + 2) c) (o + 3) d ∙ three_kept a b c
+-- all is put
+pub putting_end : {l out : List ℕ} {o k : ℕ} {all rest : List (List ℕ)} → Putting l out o k all rest → rest ≡ [] → RingsPut all l out o k
+putting_end {l} {out} {o} {k} {all} {rest} p e = (
+  omega (arith, p.place, ap ring_total e),
+  ap (λ (r : List (List ℕ)). sets out k (flat r)) (sym e) ∙ p.put,
+)
 
--- ---- rings of four places, one after the other
+-- ---- tables of local places
 
--- the words at the four places of a ring
-abbrev pub ring : List ℕ → List ℕ → List ℕ
-ring ws r = get_or ws (get_or r 0 0) 0 ∷ get_or ws (get_or r 1 0) 0 ∷ get_or ws (get_or r 2 0) 0 ∷ get_or ws (get_or r 3 0) 0 ∷ []
+-- the places of a ring are below n
+ring_in : (n : ℕ) (r : List ℕ) → any (leb n) r ≡ false → All (λ p. p < n) r
+ring_in n [] e = All-nil (λ p. p < n)
+ring_in n (p ∷ r) e =
+    let q = or_none (leb n p) (any (leb n) r) e in
+    All-cons (λ p. p < n) p r (leb-false n p q.0) (ring_in n r q.1)
 
--- the first n rings of a table
-abbrev pub first_rings : List ℕ → List (List ℕ) → ℕ → List ℕ
-first_rings ws t zero = []
-first_rings ws t (suc n) = first_rings ws t n ++ ring ws (get_or t n [])
+-- and those of a table are
+table_in : (n : ℕ) (t : List (List ℕ)) → any (any (leb n)) t ≡ false → All (λ r. All (λ p. p < n) r) t
+table_in n [] e = All-nil (λ r. All (λ p. p < n) r)
+table_in n (r ∷ t) e =
+    let q = or_none (any (leb n) r) (any (any (leb n)) t) e in
+    All-cons (λ r. All (λ p. p < n) r) r t (ring_in n r q.0) (table_in n t q.1)
 
--- they stand in x, which was l, from o on
-pub record Rings (ws : List ℕ) (t : List (List ℕ)) (l : List ℕ) (o n : ℕ) (x : List ℕ) : Type 0 where
-  pub stand : x ≡ sets l o (first_rings ws t n)
+-- the wedge's tables
+abbrev pub wedge_ends : List (List ℕ)
+wedge_ends = (0 ∷ 2 ∷ 1 ∷ []) ∷ (3 ∷ 4 ∷ 5 ∷ []) ∷ []
 
-pub no_rings : (ws : List ℕ) (t : List (List ℕ)) (l : List ℕ) (o : ℕ) → Rings ws t l o 0 l
-no_rings ws t l o = record { stand = refl }
+abbrev pub wedge_sides : List (List ℕ)
+wedge_sides = (0 ∷ 1 ∷ 4 ∷ 3 ∷ []) ∷ (1 ∷ 2 ∷ 5 ∷ 4 ∷ []) ∷ (2 ∷ 0 ∷ 3 ∷ 5 ∷ []) ∷ []
 
-rings_length : (ws : List ℕ) (t : List (List ℕ)) (n : ℕ) → length (first_rings ws t n) ≡ 4 * n
-rings_length ws t zero = refl
-rings_length ws t (suc n) = length-append (first_rings ws t n) (ring ws (get_or t n [])) ∙ omega (arith, rings_length ws t n)
-
--- the places of the hexahedron's rings are below 8
-places : (n : ℕ) → n < 6
-    → (get_or (get_or hex_rings n []) 0 0 < 8) × (get_or (get_or hex_rings n []) 1 0 < 8) × (get_or (get_or hex_rings n []) 2 0 < 8) × (get_or (get_or hex_rings n []) 3 0 < 8)
-places zero h = omega arith
-places (suc zero) h = omega arith
-places (suc (suc zero)) h = omega arith
-places (suc (suc (suc zero))) h = omega arith
-places (suc (suc (suc (suc zero)))) h = omega arith
-places (suc (suc (suc (suc (suc zero))))) h = omega arith
-places (suc (suc (suc (suc (suc (suc n)))))) h = absurd (omega arith)
-
-module _ {ws : List ℕ} {t : List (List ℕ)} {l : List ℕ} {o n : ℕ} {x : List ℕ} (r : Rings ws t l o n x) where
-  -- one more
-  pub next_ring : {p : ℕ} {y : List ℕ} → p ≡ o + 4 * n → y ≡ sets x p (ring ws (get_or t n [])) → Rings ws t l o (suc n) y
-  next_ring {p = p} {y = y} q e = record { stand = put_next l x y o p (first_rings ws t n) (ring ws (get_or t n [])) r.stand e (omega (arith, rings_length ws t n)) }
-
-  pub rings_kept : length x ≡ length l
-  rings_kept = ap length r.stand ∙ length-sets l o (first_rings ws t n)
-
-  -- what the next asks
-  pub ring_asks : {p : ℕ} → p ≡ o + 4 * n → n < 6 → (t ≡ hex_rings) × (length ws ≡ 8) × (o + 24 ≤ length l)
-      → (get_or (get_or t n []) 0 0 < length ws) × (get_or (get_or t n []) 1 0 < length ws) × (get_or (get_or t n []) 2 0 < length ws) × (get_or (get_or t n []) 3 0 < length ws) × (p + 4 ≤ length x)
-  ring_asks q h (e, f, g) = let d = places n h in rw (e, f) (d.0, d.1, d.2, d.3, omega (arith, rings_kept))
-
--- all six
-pub all_rings : {ws : List ℕ} {t : List (List ℕ)} {l : List ℕ} {o : ℕ} {x : List ℕ}
-    → Rings ws t l o 6 x → t ≡ hex_rings → x ≡ sets l o (each (λ r. r) (at ws hex_rings))
-all_rings {ws} {t} {l} {o} r e = r.stand ∙ ap (λ (s : List (List ℕ)). sets l o (first_rings ws s 6)) e
+-- what putting a table's rings asks, in a cell of n words
+pub table_asks : (t : List (List ℕ)) (ws : List ℕ) (n : ℕ) → any (any (leb n)) t ≡ false → length ws ≡ n → All (λ r. All (λ p. p < length ws) r) t
+table_asks t ws n e h = subst (λ (m : ℕ). All (λ r. All (λ p. p < m) r) t) (sym h) (table_in n t e)

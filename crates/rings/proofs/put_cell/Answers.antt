@@ -1,94 +1,85 @@
-use Rattle.mesh.proofs.ByKind.{tet_is, hex_is, wedge_is, phed_is}
-use Rattle.mesh.proofs.CellKinds.{the_fourth}
-use Rattle.mesh.specs.Steps.{ring_total}
-use Rattle.laws.specs.Lists.{each}
-use lib.Seq.{sets}
-use lib.ListN.{length}
-use native.Mathlib.Omega.{arith}
 use Prim.Native.Nat.{ℕ}
+use mathlib.Core.Path.{◌≡◌, refl, sym, ap, subst}
 use mathlib.Core.List.{List}
-use mathlib.Core.Path.{refl, sym, ap, ◌∙◌, subst}
-use Prim.Native.Nat.{◌+◌, ◌≤◌}
+use native.Mathlib.Omega.{arith}
+use Rattle.mesh.specs.Kinds.{kind_number}
+use Rattle.mesh.specs.CellsRest.{cell_raw}
+use Rattle.mesh.specs.Rings.{at, tet_rings, hex_rings, rings_of}
+use Rattle.mesh.specs.Steps.{ring_total}
+use Rattle.mesh.proofs.ByKind.{tet_is, hex_is, wedge_is, phed_is}
+use Rattle.rings.specs.Put.{RingsPut}
+use Rattle.rings.proofs.Putting.{wedge_ends, wedge_sides, put_both, table_asks}
 use Rattle.rings.proofs.put_cell.Goals as goal
 
-pub put_tet-requires : goal.put_tet-requires
-put_tet-requires c =
-    let a = c.args in
-    let t = tet_is a.kind a.words.now c.if-kind-eq1.true c.requires.0 in
-    let h : a.at + 12 ≤ length a.out.now = subst (λ (R : List (List ℕ)). a.at + ring_total R ≤ length a.out.now) t.1 c.requires.1 in
-    (t.0, h)
+-- ---- tetrahedra
 
-pub overflow_add-result : goal.overflow_add-result
-overflow_add-result c =
-    let a = c.args in
-    let t = tet_is a.kind a.words.now c.if-kind-eq1.true c.requires.0 in
-    let h : a.at + 12 ≤ length a.out.now = subst (λ (R : List (List ℕ)). a.at + ring_total R ≤ length a.out.now) t.1 c.requires.1 in
-    omega (arith, h)
+pub put_rings-requires : goal.put_rings-requires
+put_rings-requires c =
+    let x = c.args.cell.now in
+    let t = tet_is _ x.words.now (ap kind_number c.in-Tet4.is) x.well in
+    let n : ring_total (rings_of (cell_raw x)) ≡ 12 = ap ring_total t.1 in
+    (omega arith, (omega arith, (table_asks tet_rings x.words.now 4 refl t.0, omega (arith, c.requires))))
 
-pub returns-then-kind-eq1 : goal.returns-then-kind-eq1
-returns-then-kind-eq1 c =
+pub returns-in-Tet4 : goal.returns-in-Tet4
+returns-in-Tet4 c =
     let a = c.args in
-    let t = tet_is a.kind a.words.now c.if-kind-eq1.true c.requires.0 in (
-      ap (λ (R : List (List ℕ)). a.at + ring_total R) (sym t.1),
-      c.put_tet.ensures ∙ ap (λ (R : List (List ℕ)). sets a.out.now a.at (each (λ (r : List ℕ). r) R)) (sym t.1),
-    )
+    let x = a.cell.now in
+    let r = c.put_rings in
+    subst (λ (R : List (List ℕ)). RingsPut R a.out.now r.new.out a.at r.result) (sym (tet_is _ x.words.now (ap kind_number c.in-Tet4.is) x.well).1) r.ensures
 
-pub put_hex-requires : goal.put_hex-requires
-put_hex-requires c =
-    let a = c.args in
-    let t = hex_is a.kind a.words.now c.if-kind-eq2.true c.requires.0 in
-    let h : a.at + 24 ≤ length a.out.now = subst (λ (R : List (List ℕ)). a.at + ring_total R ≤ length a.out.now) t.1 c.requires.1 in
-    (refl, t.0, h)
+-- ---- hexahedra
 
-pub overflow_add-result-then-kind-eq2 : goal.overflow_add-result-then-kind-eq2
-overflow_add-result-then-kind-eq2 c =
-    let a = c.args in
-    let t = hex_is a.kind a.words.now c.if-kind-eq2.true c.requires.0 in
-    let h : a.at + 24 ≤ length a.out.now = subst (λ (R : List (List ℕ)). a.at + ring_total R ≤ length a.out.now) t.1 c.requires.1 in
-    omega (arith, h)
+pub put_rings-requires-in-Hex8 : goal.put_rings-requires-in-Hex8
+put_rings-requires-in-Hex8 c =
+    let x = c.args.cell.now in
+    let t = hex_is _ x.words.now (ap kind_number c.in-Hex8.is) x.well in
+    let n : ring_total (rings_of (cell_raw x)) ≡ 24 = ap ring_total t.1 in
+    (omega arith, (omega arith, (table_asks hex_rings x.words.now 8 refl t.0, omega (arith, c.requires))))
 
-pub returns-then-kind-eq2 : goal.returns-then-kind-eq2
-returns-then-kind-eq2 c =
+pub returns-in-Hex8 : goal.returns-in-Hex8
+returns-in-Hex8 c =
     let a = c.args in
-    let t = hex_is a.kind a.words.now c.if-kind-eq2.true c.requires.0 in (
-      ap (λ (R : List (List ℕ)). a.at + ring_total R) (sym t.1),
-      c.put_hex.ensures ∙ ap (λ (R : List (List ℕ)). sets a.out.now a.at (each (λ (r : List ℕ). r) R)) (sym t.1),
-    )
+    let x = a.cell.now in
+    let r = c.put_rings-in-Hex8 in
+    subst (λ (R : List (List ℕ)). RingsPut R a.out.now r.new.out a.at r.result) (sym (hex_is _ x.words.now (ap kind_number c.in-Hex8.is) x.well).1) r.ensures
 
-pub put_wedge-requires : goal.put_wedge-requires
-put_wedge-requires c =
-    let a = c.args in
-    let t = wedge_is a.kind a.words.now c.if-kind-eq3.true c.requires.0 in
-    let h : a.at + 18 ≤ length a.out.now = subst (λ (R : List (List ℕ)). a.at + ring_total R ≤ length a.out.now) t.1 c.requires.1 in
-    (t.0, h)
+-- ---- wedges
 
-pub overflow_add-result-then-kind-eq3 : goal.overflow_add-result-then-kind-eq3
-overflow_add-result-then-kind-eq3 c =
-    let a = c.args in
-    let t = wedge_is a.kind a.words.now c.if-kind-eq3.true c.requires.0 in
-    let h : a.at + 18 ≤ length a.out.now = subst (λ (R : List (List ℕ)). a.at + ring_total R ≤ length a.out.now) t.1 c.requires.1 in
-    omega (arith, h)
+pub put_rings-k-requires : goal.put_rings-k-requires
+put_rings-k-requires c =
+    let x = c.args.cell.now in
+    let t = wedge_is _ x.words.now (ap kind_number c.in-Wedge6.is) x.well in
+    let n : ring_total (rings_of (cell_raw x)) ≡ 18 = ap ring_total t.1 in
+    (omega arith, (omega arith, (table_asks wedge_ends x.words.now 6 refl t.0, omega (arith, c.requires))))
 
-pub returns-then-kind-eq3 : goal.returns-then-kind-eq3
-returns-then-kind-eq3 c =
+pub put_rings-requires-in-Wedge6 : goal.put_rings-requires-in-Wedge6
+put_rings-requires-in-Wedge6 c =
+    let x = c.args.cell.now in
+    let t = wedge_is _ x.words.now (ap kind_number c.in-Wedge6.is) x.well in
+    let n : ring_total (rings_of (cell_raw x)) ≡ 18 = ap ring_total t.1 in
+    (omega arith, (omega arith, (table_asks wedge_sides x.words.now 6 refl t.0, omega (arith, c.requires, c.put_rings-k.ensures.0, c.put_rings-k.auto.out))))
+
+pub returns-in-Wedge6 : goal.returns-in-Wedge6
+returns-in-Wedge6 c =
     let a = c.args in
-    let t = wedge_is a.kind a.words.now c.if-kind-eq3.true c.requires.0 in (
-      ap (λ (R : List (List ℕ)). a.at + ring_total R) (sym t.1),
-      c.put_wedge.ensures ∙ ap (λ (R : List (List ℕ)). sets a.out.now a.at (each (λ (r : List ℕ). r) R)) (sym t.1),
-    )
+    let x = a.cell.now in
+    let ws = x.words.now in
+    let k = c.put_rings-k in
+    let r = c.put_rings-in-Wedge6 in
+    subst (λ (R : List (List ℕ)). RingsPut R a.out.now r.new.out a.at r.result) (sym (wedge_is _ ws (ap kind_number c.in-Wedge6.is) x.well).1)
+    (put_both a.out.now k.new.out r.new.out a.at k.result r.result (at ws wedge_ends) (at ws wedge_sides) k.ensures r.ensures)
+
+-- ---- PHEDs
 
 pub put_phed-requires : goal.put_phed-requires
 put_phed-requires c =
-    let a = c.args in
-    let e = the_fourth a.kind c.requires.0.kind c.if-kind-eq1.false c.if-kind-eq2.false c.if-kind-eq3.false in
-    subst (λ (R : List (List ℕ)). a.at + ring_total R ≤ length a.out.now) (phed_is a.kind a.words.now e) c.requires.1
+    let x = c.args.cell.now in
+    let t = ap ring_total (phed_is _ x.words.now (ap kind_number c.in-Phed.is)) in
+    omega (arith, c.requires, t)
 
-pub returns : goal.returns
-returns c =
+pub returns-in-Phed : goal.returns-in-Phed
+returns-in-Phed c =
     let a = c.args in
-    let e = the_fourth a.kind c.requires.0.kind c.if-kind-eq1.false c.if-kind-eq2.false c.if-kind-eq3.false in
-    let t = phed_is a.kind a.words.now e in
-    let p = c.put_phed.ensures in (
-      p.0 ∙ ap (λ (R : List (List ℕ)). a.at + ring_total R) (sym t),
-      p.1 ∙ ap (λ (R : List (List ℕ)). sets a.out.now a.at (each (λ (r : List ℕ). r) R)) (sym t),
-    )
+    let x = a.cell.now in
+    let r = c.put_phed in
+    subst (λ (R : List (List ℕ)). RingsPut R a.out.now r.new.out a.at r.result) (sym (phed_is _ x.words.now (ap kind_number c.in-Phed.is))) r.ensures

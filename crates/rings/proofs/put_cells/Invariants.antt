@@ -1,10 +1,10 @@
-use Rattle.rings.proofs.Laying.{Laying}
-use lib.ListN.{length}
-use Prim.Native.Nat.{◌-◌}
+use Rattle.laws.specs.Lists.{each}
+use Rattle.mesh.specs.Lent.{lent}
+use Rattle.mesh.specs.Model.{cells_of}
+use Rattle.mesh.specs.Rings.{rings_of}
+use Rattle.mesh.specs.CellsRest.{cells_rest}
+use Rattle.rings.proofs.Putting.{Putting}
 use Rattle.rings.proofs.put_cells.Given as goal
 
-abbrev pub invariant-loop-i : goal.invariant-loop-i
-invariant-loop-i l = Laying l.kinds l.ends l.words l.initial.out l.out l.at l.k l.from l.i
-
-abbrev pub decreases-loop-i : goal.decreases-loop-i
-decreases-loop-i l = length l.kinds - l.i
+abbrev pub invariant-loop-cell : goal.invariant-loop-cell
+invariant-loop-cell l = Putting l.initial.out l.out l.at l.k (each rings_of (cells_of (lent l.model.model))) (each rings_of (cells_rest l.cell-iterator))

@@ -1,10 +1,7 @@
-use Rattle.rings.proofs.Polyhedra.{Putting}
-use lib.ListN.{length}
-use Prim.Native.Nat.{◌-◌}
+use Rattle.mesh.specs.Rings.{phed_rings}
+use Rattle.mesh.specs.PhedRest.{phed_rest}
+use Rattle.rings.proofs.Putting.{Putting}
 use Rattle.rings.proofs.put_phed.Given as goal
 
-abbrev pub invariant-loop-i : goal.invariant-loop-i
-invariant-loop-i l = Putting l.words l.initial.out l.out l.at l.k l.i
-
-abbrev pub decreases-loop-i : goal.decreases-loop-i
-decreases-loop-i l = length l.words - l.i
+abbrev pub invariant-loop-ring : goal.invariant-loop-ring
+invariant-loop-ring l = Putting l.initial.out l.out l.at l.k (phed_rings l.words) (phed_rest l.ring-iterator)

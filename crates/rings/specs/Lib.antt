@@ -1,0 +1,2 @@
+-- Internal contracts on rings put into a list.
+pub mod Put
