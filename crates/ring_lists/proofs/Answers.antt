@@ -1,6 +1,6 @@
 -- The table of filling ring lists, row by row, and its promise.
 use Prim.Native.Nat.{ℕ, ◌≤◌, ◌<◌}
-use mathlib.Core.Path.{◌≡◌, ap, ◌∙◌}
+use mathlib.Core.Path.{◌≡◌, sym, ap, ◌∙◌}
 use mathlib.Core.Logic.{◌≢◌}
 use mathlib.Core.Bool.{Bool, ◌||◌}
 use mathlib.Core.List.{List, [], ◌∷◌, ◌++◌, append_assoc}
@@ -8,19 +8,21 @@ use native.Mathlib.Omega.{arith}
 use borrow.Author.Tests.{lt-ltb, le-ltb, ne_eqb}
 use lib.Dec.{ltb}
 use lib.ListN.{length, replicate, length-replicate, length-map}
+use Rattle.std.specs.Prelude.{Ok, Err}
 use Rattle.laws.specs.Refusals.{refusal}
+use Rattle.refusals.specs.declared.Refusal.{Refusal}
+use Rattle.refusals.specs.Told.{number}
+use Rattle.refusals.proofs.Told.{number-positive, ok_told, err_told}
 use Rattle.laws.proofs.Stores.{sets_front}
 use Rattle.laws.proofs.Tables.{clear_append, refusal_first}
 use Rattle.mesh.specs.Model.{Model}
 use Rattle.mesh.specs.Acceptance.{model_table, model_refusal, work_needed}
-use Rattle.mesh.specs.Steps.{ModelCounted}
-use Rattle.mesh.specs.declared.CellTally.{CellTally}
+use Rattle.mesh.specs.Steps.{Tallied}
 use Rattle.mesh.proofs.Accepts.{accepted_clear}
 use Rattle.snap.specs.Weld.{welded_by}
 use Rattle.welding.specs.Used.{welds_of}
 use Rattle.ring_lists.specs.Filling.{raw_rings, welded_rings, fill_refusal, Filling}
 use Rattle.ring_lists.specs.Steps.{Stored}
-use Rattle.ring_lists.specs.declared.RingsAnswer.TheVariants.{Refused, Words}
 
 -- ---- the rows
 
@@ -57,17 +59,20 @@ module _ (m : Model) (raw welded work : List ℕ) where
 
   -- ---- the promise
 
-  pub refused_so : (n : ℕ) → fill_refusal m raw welded work ≡ n → n ≢ 0 → Filling m raw raw welded welded work work (Refused n)
-  refused_so n e z =
-      let q = ne_eqb n 0 z in
-      record { answered = rw (e, q); memory = record { raw_is = rw (e, q); welded_is = rw (e, q); work_is = rw (e, q) } }
+  pub refused_so : (e : Refusal) → number e ≡ fill_refusal m raw welded work → Filling m raw raw welded welded work work (Err e)
+  refused_so e is =
+      let q = ne_eqb (number e) 0 (λ z. omega (arith, number-positive e)) in
+      record {
+        answered = err_told {A = ℕ} (λ n. n) e _ _ is;
+        memory = record { raw_is = rw (sym is, q); welded_is = rw (sym is, q); work_is = rw (sym is, q) };
+      }
 
   pub filled_so : (raw' welded' work' : List ℕ) (r : ℕ) → fill_refusal m raw welded work ≡ 0 → work_needed m ≤ length work → length (raw_rings m) ≤ length raw → length (raw_rings m) ≤ length welded
-      → r ≡ length (raw_rings m) → Stored m raw raw' welded welded' work work' → Filling m raw raw' welded welded' work work' (Words r)
+      → r ≡ length (raw_rings m) → Stored m raw raw' welded welded' work work' → Filling m raw raw' welded welded' work work' (Ok r)
   unfolding welded_rings
   filled_so raw' welded' work' r e a b c k s =
       record {
-        answered = rw (e, k);
+        answered = ok_told {A = ℕ} (λ n. n) r _ _ e k;
         memory = record {
           raw_is = s.raw_is ∙ sets_front raw (raw_rings m) b ∙ rw e;
           welded_is = s.welded_is ∙ sets_front welded (welded_rings m) (omega (arith, length-map (raw_rings m) (welded_by (welds_of m)))) ∙ rw e;
@@ -77,6 +82,6 @@ module _ (m : Model) (raw welded work : List ℕ) where
 
 -- ---- the words, from the counts
 
-pub words_are : (m : Model) (t : CellTally) → ModelCounted m t → t.refusal ≡ 0 → t.words ≡ length (raw_rings m)
+pub words_are : (m : Model) (f r : ℕ) → Tallied m f r → r ≡ length (raw_rings m)
 unfolding raw_rings
-words_are m t c z = c.words z
+words_are m f r t = t.words

@@ -1,21 +1,21 @@
 -- The lists of an accepted model: what their makers ask, and what they leave.
-use Prim.Native.Nat.{ℕ, ◌+◌, ◌-◌, ◌≤◌}
+use Prim.Native.Nat.{ℕ, ◌+◌, ◌≤◌}
 use mathlib.Core.Path.{◌≡◌, sym, ap, ap₂, ◌∙◌, subst}
 use mathlib.Core.List.{List, map}
 use native.Mathlib.Omega.{arith}
-use lib.ListN.{length, take, drop}
+use lib.ListN.{length, take}
 use lib.Seq.{sets}
 use Rattle.laws.specs.Lists.{each}
 use Rattle.laws.specs.Merging.{region, AllBelow}
 use Rattle.laws.proofs.Stores.{region_same}
 use Rattle.geometry.specs.Coordinates.{node_count}
-use Rattle.mesh.specs.Model.{Model, Raw, cells_from, cells_of}
+use Rattle.mesh.specs.Model.{Model, Raw, cells_of}
 use Rattle.mesh.specs.Rings.{rings_of}
 use Rattle.mesh.specs.Acceptance.{model_refusal}
-use Rattle.mesh.specs.Steps.{ring_total, WellCells}
+use Rattle.mesh.specs.Steps.{ring_total}
 use Rattle.mesh.proofs.ModelTable.{ring_words_lem}
 use Rattle.mesh.proofs.Accepts.{Accepts, accepts}
-use Rattle.mesh.proofs.NodeNumbers.{well_cells, cells_below}
+use Rattle.mesh.proofs.NodeNumbers.{cells_below}
 use Rattle.snap.specs.Weld.{welded_by}
 use Rattle.welding.specs.Steps.{welded_over}
 use Rattle.welding.proofs.Used.{welds_words}
@@ -26,36 +26,30 @@ module _ (m : Model) (ok : model_refusal m ≡ 0) where
   A = accepts m ok
 
   abbrev cells : List Raw
-  cells = cells_from 0 m.kinds m.ends m.words
+  cells = cells_of m
 
   abbrev n : ℕ
   n = node_count m.coords
 
   -- the raw list is the rings of the cells
   pub raw_is_lem : raw_rings m ≡ each (λ r. r) (each rings_of cells)
-  unfolding raw_rings cells_of
+  unfolding raw_rings
   raw_is_lem = ring_words_lem m
 
   pub raw_total : length (raw_rings m) ≡ ring_total (each rings_of cells)
   raw_total = ap length raw_is_lem
 
-  -- what putting the rings asks
-  pub cells_well : WellCells cells
-  unfolding cells_of
-  cells_well = well_cells n cells A.right
-
   -- the words of the raw list are nodes
   pub raw_below : AllBelow n (raw_rings m)
-  unfolding cells_of
   raw_below = subst (AllBelow n) (sym raw_is_lem) (cells_below n cells A.right)
 
   module _ (raw raw' : List ℕ) (room : length (raw_rings m) ≤ length raw) (put : raw' ≡ sets raw 0 (each (λ r. r) (each rings_of cells))) where
     -- the first R words of the list
-    pub front : (r : ℕ) → r ≡ 0 + ring_total (each rings_of cells) → take (r - 0) (drop 0 raw') ≡ raw_rings m
+    pub front : (r : ℕ) → r ≡ 0 + ring_total (each rings_of cells) → take r raw' ≡ raw_rings m
     front r e =
-        let k : r - 0 ≡ length (raw_rings m) = omega (arith, raw_total) in
-        ap (region 0 (r - 0)) (put ∙ ap (sets raw 0) (sym raw_is_lem))
-        ∙ ap (λ (k : ℕ). region 0 k (sets raw 0 (raw_rings m))) k
+        let k : r ≡ length (raw_rings m) = omega (arith, raw_total) in
+        ap (take r) (put ∙ ap (sets raw 0) (sym raw_is_lem))
+        ∙ ap (λ (k : ℕ). take k (sets raw 0 (raw_rings m))) k
         ∙ region_same raw 0 (raw_rings m) (omega arith)
 
     pub raw_stored : raw' ≡ sets raw 0 (raw_rings m)

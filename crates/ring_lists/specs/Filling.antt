@@ -1,13 +1,13 @@
 -- Filling ring lists: why it refuses, and what the lists and the work hold afterwards.
-use Rattle.std.specs.Prelude.{ℕ, Bool, ◌||◌, List, [], ◌∷◌, ◌++◌, map, ◌≡◌, ltb, length, replicate}
-use Rattle.laws.specs.Refusals.{Answer, refused, done, refusal, answer, filled}
+use Rattle.std.specs.Prelude.{ℕ, Bool, ◌||◌, List, [], ◌∷◌, ◌++◌, map, ◌≡◌, ltb, length, replicate, Result}
+use Rattle.laws.specs.Refusals.{refusal, answer, filled}
+use Rattle.refusals.specs.Told.{told}
+use Rattle.refusals.specs.declared.Refusal.{Refusal}
 use Rattle.mesh.specs.Model.{Model}
 use Rattle.mesh.specs.Rings.{ring_words}
 use Rattle.mesh.specs.Acceptance.{check_table, faces_in, work_needed}
 use Rattle.snap.specs.Weld.{welded_by}
 use Rattle.welding.specs.Used.{welds_of}
-use Rattle.ring_lists.specs.declared.RingsAnswer.{RingsAnswer}
-use Rattle.ring_lists.specs.declared.RingsAnswer.TheVariants.{Refused, Words}
 
 -- all rings in face order: raw, R words
 unfoldable pub raw_rings : Model → List ℕ
@@ -25,11 +25,6 @@ fill_table m raw welded work =
 abbrev pub fill_refusal : Model → List ℕ → List ℕ → List ℕ → ℕ
 fill_refusal m raw welded work = refusal (fill_table m (length raw) (length welded) (length work))
 
--- the number and the value for each case of the enum
-abbrev pub fill_told : RingsAnswer → Answer ℕ
-fill_told (Refused n) = refused n
-fill_told (Words n) = done n
-
 -- What filling leaves in lent memory: the first R words of each list, and the needed words of work, which end zero.
 pub record FillMemory (m : Model) (raw raw' welded welded' work work' : List ℕ) : Type 0 where
   pub raw_is : raw' ≡ filled (fill_refusal m raw welded work) (raw_rings m) raw
@@ -37,6 +32,6 @@ pub record FillMemory (m : Model) (raw raw' welded welded' work work' : List ℕ
   pub work_is : work' ≡ filled (fill_refusal m raw welded work) (replicate (work_needed m) 0) work
 
 -- Filling's promise: the answer, and lent memory.
-pub record Filling (m : Model) (raw raw' welded welded' work work' : List ℕ) (r : RingsAnswer) : Type 0 where
-  pub answered : fill_told r ≡ answer (fill_refusal m raw welded work) (length (raw_rings m))
+pub record Filling (m : Model) (raw raw' welded welded' work work' : List ℕ) (r : Result ℕ Refusal) : Type 0 where
+  pub answered : told r ≡ answer (fill_refusal m raw welded work) (length (raw_rings m))
   pub memory : FillMemory m raw raw' welded welded' work work'

@@ -1,107 +1,79 @@
+use Prim.Native.Nat.{◌≤◌, ◌<◌}
+use mathlib.Core.Path.{◌≡◌, sym, ◌∙◌, subst}
 use native.Mathlib.Omega.{arith}
-use borrow.Author.Tests.{ltb-false}
-use Rattle.laws.specs.Limits.{cell_limit, word_limit}
-use Rattle.mesh.specs.Acceptance.{work_needed}
-use Rattle.ring_lists.specs.Filling.{raw_rings}
-use Rattle.ring_lists.proofs.Answers.{row_model, row_work, row_raw, row_welded, row_none, refused_so, filled_so, words_are}
-use Rattle.mesh.proofs.CellWords.{few_nodes}
-use Rattle.mesh.proofs.ModelTable.{work_is_lem}
-use Rattle.mesh.proofs.Accepts.{accepts}
-use Rattle.mesh.specs.Model.{model_of}
 use lib.ListN.{length}
-use mathlib.Core.Path.{sym, ◌∙◌}
-use Prim.Native.Nat.{◌≤◌}
+use Rattle.std.specs.Prelude.{Ok, Err}
+use Rattle.std.proofs.lemmas.Result.{err_from_is_err_and}
+use Rattle.refusals.specs.declared.Refusal.TheVariants.{Work, Room}
+use Rattle.refusals.proofs.Told.{number-positive, told_ok, told_err}
+use Rattle.mesh.specs.Model.{Model}
+use Rattle.mesh.specs.Lent.{lent}
+use Rattle.mesh.specs.Acceptance.{work_needed}
+use Rattle.mesh.specs.declared.accepted.Accepted.{Accepted}
+use Rattle.ring_lists.specs.Filling.{raw_rings, Filling}
+use Rattle.ring_lists.proofs.Answers.{row_model, row_work, row_raw, row_welded, row_none, refused_so, filled_so, words_are}
 use Rattle.ring_lists.proofs.fill_ring_lists.Goals as goal
 
-pub returns-then-t-ne0 : goal.returns-then-t-ne0
-returns-then-t-ne0 c =
-    let a = c.args in
-    let m = model_of a.coords.now a.kinds.now a.ends.now a.words.now a.tol a.checks.0 0 in
-    let t = c.accept-t in
-    let z = c.if-t-ne0.true in
-    let e = t.ensures.refusal in
-    refused_so m a.raw.now a.welded.now a.work.now _ (row_model m a.raw.now a.welded.now a.work.now (λ y. z (e ∙ y)) ∙ sym e) z
+pub returns-in_err-accepted : goal.returns-in_err-accepted
+returns-in_err-accepted c =
+    let m = lent c.args.model.now in
+    let p = err_from_is_err_and c.from_residual.result c.from_residual.ensures.1 in
+    let e = c.in_err-accepted.field-0.0 in
+    let n = told_err {A = Accepted} (λ a. lent a.model) e _ _ c.in_err-accepted.ensures in
+    rw (p.1, p.2) (refused_so m c.args.raw.now c.args.welded.now c.args.work.now e (n ∙ sym (row_model m _ _ _ (λ z. omega (arith, number-positive e, n, z)))))
 
-pub work_needed-need-requires : goal.work_needed-need-requires
-work_needed-need-requires c =
-    let a = c.args in
-    let m = model_of a.coords.now a.kinds.now a.ends.now a.words.now a.tol a.checks.0 0 in
-    let t = c.accept-t in
-    let ok = sym t.ensures.refusal ∙ c.if-t-ne0.false in
-    let k = accepts m ok in (
-      t.ensures.small,
-      t.ensures.few,
-      omega (arith, ltb-false cell_limit (length a.kinds.now) k.cells),
-      omega (arith, few_nodes m k),
-      omega (arith, ltb-false word_limit (length a.words.now) k.words),
-    )
+pub returns-then-work-work_needed : goal.returns-then-work-work_needed
+returns-then-work-work_needed c =
+    let s = c.in_ok-accepted.accepted in
+    let is = (told_ok {A = Accepted} (λ a. lent a.model) s _ _ c.in_ok-accepted.ensures).1 in
+    subst (λ (x : Model). Filling x c.args.raw.now c.args.raw.now c.args.welded.now c.args.welded.now c.args.work.now c.args.work.now (Err Work)) is
+    (refused_so (lent s.model) _ _ _ Work (sym (row_work (lent s.model) c.args.raw.now c.args.welded.now c.args.work.now s.accepted (omega (arith, c.work_needed.ensures, c.if-work-work_needed.true)))))
 
-pub returns-then-work-need : goal.returns-then-work-need
-returns-then-work-need c =
-    let a = c.args in
-    let m = model_of a.coords.now a.kinds.now a.ends.now a.words.now a.tol a.checks.0 0 in
-    let t = c.accept-t in
-    let z = c.if-t-ne0.false in
-    let ok = sym t.ensures.refusal ∙ z in
-    let w = c.work_needed-need.ensures ∙ work_is_lem m t.result t.ensures z in
-    let r = words_are m t.result t.ensures z in
-    refused_so m a.raw.now a.welded.now a.work.now 11 (row_work m a.raw.now a.welded.now a.work.now ok (omega (arith, w, c.if-work-need.true))) (λ y. omega arith)
+pub returns-then-raw-accepted : goal.returns-then-raw-accepted
+returns-then-raw-accepted c =
+    let s = c.in_ok-accepted.accepted in
+    let m = lent s.model in
+    let is = (told_ok {A = Accepted} (λ a. lent a.model) s _ _ c.in_ok-accepted.ensures).1 in
+    let k : s.ring_words ≡ length (raw_rings m) = words_are m s.faces s.ring_words s.tallied in
+    let w : work_needed m ≤ length c.args.work.now = omega (arith, c.work_needed.ensures, c.if-work-work_needed.false) in
+    let t : length c.args.raw.now < s.ring_words = c.if-raw-accepted.true in
+    subst (λ (x : Model). Filling x c.args.raw.now c.args.raw.now c.args.welded.now c.args.welded.now c.args.work.now c.args.work.now (Err Room)) is
+    (refused_so m _ _ _ Room (sym (row_raw m c.args.raw.now c.args.welded.now c.args.work.now s.accepted w (omega arith))))
 
-pub returns-then-raw-t : goal.returns-then-raw-t
-returns-then-raw-t c =
-    let a = c.args in
-    let m = model_of a.coords.now a.kinds.now a.ends.now a.words.now a.tol a.checks.0 0 in
-    let t = c.accept-t in
-    let z = c.if-t-ne0.false in
-    let ok = sym t.ensures.refusal ∙ z in
-    let w = c.work_needed-need.ensures ∙ work_is_lem m t.result t.ensures z in
-    let r = words_are m t.result t.ensures z in
-    refused_so m a.raw.now a.welded.now a.work.now 4 (row_raw m a.raw.now a.welded.now a.work.now ok (omega (arith, w, c.if-work-need.false)) (omega (arith, r, c.if-raw-t.true))) (λ y. omega arith)
+pub returns-then-welded-accepted : goal.returns-then-welded-accepted
+returns-then-welded-accepted c =
+    let s = c.in_ok-accepted.accepted in
+    let m = lent s.model in
+    let is = (told_ok {A = Accepted} (λ a. lent a.model) s _ _ c.in_ok-accepted.ensures).1 in
+    let k : s.ring_words ≡ length (raw_rings m) = words_are m s.faces s.ring_words s.tallied in
+    let w : work_needed m ≤ length c.args.work.now = omega (arith, c.work_needed.ensures, c.if-work-work_needed.false) in
+    let r : s.ring_words ≤ length c.args.raw.now = c.if-raw-accepted.false in
+    let t : length c.args.welded.now < s.ring_words = c.if-welded-accepted.true in
+    subst (λ (x : Model). Filling x c.args.raw.now c.args.raw.now c.args.welded.now c.args.welded.now c.args.work.now c.args.work.now (Err Room)) is
+    (refused_so m _ _ _ Room (sym (row_welded m c.args.raw.now c.args.welded.now c.args.work.now s.accepted w (omega arith) (omega arith))))
 
-pub returns-then-welded-t : goal.returns-then-welded-t
-returns-then-welded-t c =
-    let a = c.args in
-    let m = model_of a.coords.now a.kinds.now a.ends.now a.words.now a.tol a.checks.0 0 in
-    let t = c.accept-t in
-    let z = c.if-t-ne0.false in
-    let ok = sym t.ensures.refusal ∙ z in
-    let w = c.work_needed-need.ensures ∙ work_is_lem m t.result t.ensures z in
-    let r = words_are m t.result t.ensures z in
-    refused_so m a.raw.now a.welded.now a.work.now 4 (row_welded m a.raw.now a.welded.now a.work.now ok (omega (arith, w, c.if-work-need.false)) (omega (arith, r, c.if-raw-t.false)) (omega (arith, r, c.if-welded-t.true))) (λ y. omega arith)
+pub store-requires-clause-raw_in_bounds : goal.store-requires-clause-raw_in_bounds
+store-requires-clause-raw_in_bounds c =
+    let s = c.in_ok-accepted.accepted in
+    let r : s.ring_words ≤ length c.args.raw.now = c.if-raw-accepted.false in
+    omega (arith, words_are (lent s.model) s.faces s.ring_words s.tallied)
 
-pub store-requires : goal.store-requires
-store-requires c =
-    let a = c.args in
-    let m = model_of a.coords.now a.kinds.now a.ends.now a.words.now a.tol a.checks.0 0 in
-    let t = c.accept-t in
-    let z = c.if-t-ne0.false in
-    let ok = sym t.ensures.refusal ∙ z in
-    let w = c.work_needed-need.ensures ∙ work_is_lem m t.result t.ensures z in
-    let r = words_are m t.result t.ensures z in
-    (ok, w, omega (arith, c.if-work-need.false), omega (arith, r, c.if-raw-t.false), omega (arith, r, c.if-welded-t.false))
-
-pub overflow_cast-result : goal.overflow_cast-result
-overflow_cast-result c = omega (arith, c.accept-t.ensures.small)
-
-pub shape_of-raw : goal.shape_of-raw
-shape_of-raw c = c.store.auto.raw
-
-pub shape_of-welded : goal.shape_of-welded
-shape_of-welded c = c.store.auto.welded
-
-pub shape_of-work : goal.shape_of-work
-shape_of-work c = c.store.auto.work
+pub store-requires-clause-welded_in_bounds : goal.store-requires-clause-welded_in_bounds
+store-requires-clause-welded_in_bounds c =
+    let s = c.in_ok-accepted.accepted in
+    let r : s.ring_words ≤ length c.args.welded.now = c.if-welded-accepted.false in
+    omega (arith, words_are (lent s.model) s.faces s.ring_words s.tallied)
 
 pub returns : goal.returns
 returns c =
-    let a = c.args in
-    let m = model_of a.coords.now a.kinds.now a.ends.now a.words.now a.tol a.checks.0 0 in
-    let t = c.accept-t in
-    let z = c.if-t-ne0.false in
-    let ok = sym t.ensures.refusal ∙ z in
-    let w = c.work_needed-need.ensures ∙ work_is_lem m t.result t.ensures z in
-    let r = words_are m t.result t.ensures z in
-    let h : work_needed m ≤ length a.work.now = omega (arith, w, c.if-work-need.false) in
-    let x : length (raw_rings m) ≤ length a.raw.now = omega (arith, r, c.if-raw-t.false) in
-    let y : length (raw_rings m) ≤ length a.welded.now = omega (arith, r, c.if-welded-t.false) in
-    filled_so m a.raw.now a.welded.now a.work.now _ _ _ _ (row_none m a.raw.now a.welded.now a.work.now ok h x y) h x y r c.store.ensures
+    let s = c.in_ok-accepted.accepted in
+    let m = lent s.model in
+    let is = (told_ok {A = Accepted} (λ a. lent a.model) s _ _ c.in_ok-accepted.ensures).1 in
+    let k : s.ring_words ≡ length (raw_rings m) = words_are m s.faces s.ring_words s.tallied in
+    let w : work_needed m ≤ length c.args.work.now = omega (arith, c.work_needed.ensures, c.if-work-work_needed.false) in
+    let r : s.ring_words ≤ length c.args.raw.now = c.if-raw-accepted.false in
+    let t : s.ring_words ≤ length c.args.welded.now = c.if-welded-accepted.false in
+    let x : length (raw_rings m) ≤ length c.args.raw.now = omega arith in
+    let y : length (raw_rings m) ≤ length c.args.welded.now = omega arith in
+    subst (λ (z : Model). Filling z c.args.raw.now c.store.new.raw c.args.welded.now c.store.new.welded c.args.work.now c.store.new.work (Ok s.ring_words)) is
+    (filled_so m _ _ _ _ _ _ s.ring_words (row_none m c.args.raw.now c.args.welded.now c.args.work.now s.accepted w x y) w x y k c.store.ensures)

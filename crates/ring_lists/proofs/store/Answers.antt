@@ -1,76 +1,90 @@
+use Prim.Native.Nat.{ℕ, ◌+◌, ◌≤◌}
+use mathlib.Core.Path.{◌≡◌, sym, ap, ◌∙◌, subst}
 use native.Mathlib.Omega.{arith}
+use mathlib.Core.List.{map}
+use lib.ListN.{length, take, replicate}
+use lib.Seq.{sets, length-take-le}
+use Rattle.snap.specs.Weld.{welded_by}
+use Rattle.snap.specs.Steps.{But}
+use Rattle.welding.specs.Steps.{welded_over}
+use Rattle.laws.specs.Limits.{node_limit}
+use Rattle.laws.specs.Merging.{AllBelow, region}
 use Rattle.laws.proofs.Stores.{cleared}
-use Rattle.ring_lists.proofs.Lists.{raw_total, cells_well, raw_below, front, raw_stored, welded_stored}
-use Rattle.mesh.proofs.ModelTable.{work_room}
+use Rattle.geometry.specs.Coordinates.{node_count}
+use Rattle.mesh.specs.Lent.{lent}
+use Rattle.mesh.specs.Rings.{nodes_in}
 use Rattle.mesh.proofs.Accepts.{accepts}
 use Rattle.mesh.proofs.CellWords.{words_low, few_nodes}
-use Rattle.mesh.specs.Model.{model_of}
-use Rattle.geometry.specs.Coordinates.{node_count}
-use lib.ListN.{length}
-use mathlib.Core.Path.{refl, sym, ap, ◌∙◌}
-use Prim.Native.Nat.{◌+◌}
-use lib.ListN.{replicate}
-use lib.Seq.{sets}
-use Rattle.laws.specs.Merging.{AllBelow}
-use Prim.Native.Nat.{ℕ}
-use mathlib.Core.Path.{subst}
+use Rattle.mesh.proofs.ModelTable.{work_room}
+use Rattle.ring_lists.proofs.Lists.{raw_total, raw_below, front, raw_stored, welded_stored}
 use Rattle.ring_lists.proofs.store.Goals as goal
 
 pub put_cells-r-requires : goal.put_cells-r-requires
 put_cells-r-requires c =
-    let a = c.args in
-    let m = model_of a.coords.now a.kinds.now a.ends.now a.words.now a.tol a.checks.0 0 in
-    let ok = c.requires.0 in
-    let k = accepts m ok in
-    (k.paired, k.ends, cells_well m ok, omega (arith, raw_total m ok, c.requires.3))
+    let s = c.args.accepted.now in
+    omega (arith, raw_total (lent s.model) s.accepted, c.requires.raw_in_bounds)
 
 pub weld_named-requires : goal.weld_named-requires
 weld_named-requires c =
-    let a = c.args in
-    let m = model_of a.coords.now a.kinds.now a.ends.now a.words.now a.tol a.checks.0 0 in
-    let ok = c.requires.0 in
-    let k = accepts m ok in
-    (refl, omega (arith, work_room m, c.requires.1, c.requires.2), omega (arith, few_nodes m k), k.places, words_low m k)
+    let s = c.args.accepted.now in
+    let m = lent s.model in
+    let h = accepts m s.accepted in
+    let few : node_count m.coords ≤ node_limit = few_nodes m h in
+    let e = c.node_count-n.ensures in
+    (e, omega (arith, work_room m, c.requires.work_in_bounds, e), omega (arith, e), h.places, subst (λ (n : ℕ). AllBelow n (nodes_in m.words)) (sym e) (words_low m h))
+
+pub overflow_add-n : goal.overflow_add-n
+overflow_add-n c =
+    let s = c.args.accepted.now in
+    let few : node_count s.model.coords.now ≤ node_limit = few_nodes (lent s.model) (accepts (lent s.model) s.accepted) in
+    omega (arith, c.node_count-n.ensures)
+
+-- the first words put are the rings
+rings_put : goal.put_welded-requires
+rings_put c =
+    let s = c.args.accepted.now in
+    let m = lent s.model in
+    let p = c.put_cells-r in
+    let n = c.node_count-n.ensures in
+    let f = front m s.accepted c.args.raw.now _ c.requires.raw_in_bounds p.ensures.1 _ p.ensures.0 in (
+      omega (arith, ap length f, c.requires.welded_in_bounds),
+      subst (λ (k : ℕ). AllBelow k (take p.result p.new.out)) (sym n) (subst (AllBelow (node_count m.coords)) (sym f) (raw_below m s.accepted)),
+      omega (arith, n, c.weld_named.auto.work, work_room m, c.requires.work_in_bounds),
+    )
 
 pub slice_bounds-put_welded-end : goal.slice_bounds-put_welded-end
 slice_bounds-put_welded-end c =
-    let a = c.args in
-    let m = model_of a.coords.now a.kinds.now a.ends.now a.words.now a.tol a.checks.0 0 in
-    let ok = c.requires.0 in
+    let s = c.args.accepted.now in
     let p = c.put_cells-r in
-    omega (arith, p.ensures.0, raw_total m ok, c.requires.3, p.auto.out)
+    omega (arith, p.ensures.0, raw_total (lent s.model) s.accepted, c.requires.raw_in_bounds, p.auto.out)
+
+pub slice_bounds-put_welded-end-2 : goal.slice_bounds-put_welded-end-2
+slice_bounds-put_welded-end-2 c =
+    let s = c.args.accepted.now in
+    let p = c.put_cells-r in
+    sym (length-take-le p.result p.new.out (omega (arith, p.ensures.0, raw_total (lent s.model) s.accepted, c.requires.raw_in_bounds, p.auto.out)))
 
 pub put_welded-requires : goal.put_welded-requires
-put_welded-requires c =
-    let a = c.args in
-    let m = model_of a.coords.now a.kinds.now a.ends.now a.words.now a.tol a.checks.0 0 in
-    let ok = c.requires.0 in
-    let p = c.put_cells-r in
-    let f = front m ok a.raw.now _ c.requires.3 p.ensures.1 _ p.ensures.0 in
-    let w = c.weld_named.auto.work in (
-      omega (arith, ap length f, c.requires.4),
-      subst (AllBelow (node_count a.coords.now)) (sym f) (raw_below m ok),
-      omega (arith, w, work_room m, c.requires.1, c.requires.2),
-    )
+put_welded-requires c = rings_put c
 
 pub clear-requires : goal.clear-requires
-clear-requires c =
-    let a = c.args in
-    let m = model_of a.coords.now a.kinds.now a.ends.now a.words.now a.tol a.checks.0 0 in
-    let ok = c.requires.0 in
-    omega (arith, c.weld_named.auto.work, c.requires.2)
+clear-requires c = omega (arith, c.weld_named.auto.work, c.requires.work_in_bounds, c.work_needed.ensures)
 
 pub returns : goal.returns
 returns c =
-    let a = c.args in
-    let m = model_of a.coords.now a.kinds.now a.ends.now a.words.now a.tol a.checks.0 0 in
-    let ok = c.requires.0 in
+    let s = c.args.accepted.now in
+    let m = lent s.model in
     let p = c.put_cells-r in
     let q = c.weld_named in
-    let f = front m ok a.raw.now _ c.requires.3 p.ensures.1 _ p.ensures.0 in
-    let w = q.auto.work in
+    let n = c.node_count-n.ensures in
+    let f = front m s.accepted c.args.raw.now _ c.requires.raw_in_bounds p.ensures.1 _ p.ensures.0 in
+    let N = node_count m.coords in
+    let named = subst (λ (k : ℕ). (region (k + k) k q.new.work ≡ welded_over m.coords m.tolerance m.words) × But 0 (k + k + k) c.args.work.now q.new.work) n q.ensures in
     record {
-      raw_is = raw_stored m ok a.raw.now _ c.requires.3 p.ensures.1;
-      welded_is = welded_stored m ok a.welded.now _ _ _ q.ensures.0 f c.put_welded.ensures;
-      work_is = c.clear.ensures ∙ cleared a.work.now _ (node_count a.coords.now + node_count a.coords.now + node_count a.coords.now) a.need q.ensures.1.1 (omega (arith, work_room m, c.requires.1)) c.requires.2 w ∙ ap (λ (k : ℕ). sets a.work.now 0 (replicate k 0)) c.requires.1;
+      raw_is = raw_stored m s.accepted c.args.raw.now _ c.requires.raw_in_bounds p.ensures.1;
+      welded_is = welded_stored m s.accepted c.args.welded.now _ _ _ named.0 f
+          (subst (λ (k : ℕ). c.put_welded.new.out ≡ sets c.args.welded.now 0 (map (welded_by (region (k + k) k q.new.work)) (take p.result p.new.out))) n c.put_welded.ensures);
+      work_is = subst (λ (k : ℕ). c.clear.new.work ≡ sets c.args.work.now 0 (replicate k 0)) c.work_needed.ensures
+          (c.clear.ensures
+          ∙ cleared c.args.work.now _ (N + N + N) c.work_needed.result named.1.1 (omega (arith, work_room m, c.work_needed.ensures)) (omega (arith, c.work_needed.ensures, c.requires.work_in_bounds)) q.auto.work);
     }
