@@ -2,31 +2,25 @@
 // list in four bytes each, document 01's answer as our number, and whether the Rust says that the nodes span an area.
 ghost use Rattle.std.specs.Prelude.{◌+◌, ◌*◌, ◌≤◌, ◌<◌, length};
 
-use area::{Area, AreaAnswer};
+use area::Area;
+use refusals::Refusal;
 
-// Our number of an answer.
-fn number(a: Area) -> usize {
-    match a {
-        Area::TooFew => 0,
-        Area::Together => 1,
-        Area::NoDirection => 2,
-        Area::Thin => 3,
-        Area::Spans => 4,
-    }
-}
-
-// The answer to a test: our number of what it says, or 5 where it is refused.
-fn answer(test: &[u8], n: usize, k: usize) -> usize
+// The answer to a test.
+fn answer(test: &[u8], n: usize, k: usize) -> Result<Area, Refusal>
     requires { (n ≤ 64) × (k ≤ 64) × (16 + 24 * n + 4 * k ≤ length test.now) }
 {
     let mut coords = [0.0f64; 192];
     let mut nodes = [0u32; 64];
     test_support::read_coords(test, 16, &mut coords, 3 * n);
     test_support::read_words(test, 16 + 24 * n, &mut nodes, k);
-    let a = area::area_test(&coords[0..3 * n], &nodes[0..k], floats::le_f64(test, 8));
-    match a {
-        AreaAnswer::Refused(_) => 5,
-        AreaAnswer::Says(says) => number(says),
+    area::area_test(&coords[0..3 * n], &nodes[0..k], floats::le_f64(test, 8))
+}
+
+// Our number of an answer; 5 where the test is refused.
+fn number(answer: Result<Area, Refusal>) -> u8 {
+    match answer {
+        Ok(says) => says as u8,
+        Err(_) => 5,
     }
 }
 
@@ -48,7 +42,7 @@ pub fn agrees(test: &[u8]) -> bool {
         return false;
     }
     let says = answer(test, n, k);
-    let spans = says == 4;
+    let spans = says == Ok(Area::Spans);
     let theirs = test[end + 1] == 1;
-    (says == test_support::wide(test[end])) & (spans == theirs)
+    (number(says) == test[end]) & (spans == theirs)
 }

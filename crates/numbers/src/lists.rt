@@ -1,5 +1,5 @@
 // Lists of recorded sets: for each the length of its name in a byte, the name, its size in four bytes, its bytes.
-ghost use Rattle.std.specs.Prelude.{◌+◌, ◌≤◌, ◌<◌, length};
+ghost use Rattle.std.specs.Prelude.{◌≤◌, ◌<◌, length, IfSome};
 
 use crate::{areas, welds};
 use std::io;
@@ -12,8 +12,8 @@ pub enum Kind {
     Areas,
 }
 
-// Where an entry lies: its name from `name` to `size`, its bytes from `from` to `to`. All 0 where it is cut short.
-#[derive(Drop)]
+// Where an entry lies: its name from `name` to `size`, its bytes from `from` to `to`.
+#[derive(Clone, Copy)]
 struct Entry {
     name: usize,
     size: usize,
@@ -21,38 +21,27 @@ struct Entry {
     to: usize,
 }
 
-fn cut_short() -> Entry
-    ensures { (result.name ≤ result.size) × (result.size ≤ result.to) × (result.from ≤ result.to) × (result.to ≤ 0) }
-{
-    Entry {
-        name: 0,
-        size: 0,
-        from: 0,
-        to: 0,
-    }
-}
-
-// The entry at a place.
-fn entry_at(s: &[u8], at: usize) -> Entry
+// The entry at a place, unless it is cut short.
+fn entry_at(s: &[u8], at: usize) -> Option<Entry>
     requires { at < length s.now }
-    ensures { (result.name ≤ result.size) × (result.size ≤ result.to) × (result.from ≤ result.to) × (result.to ≤ length s.now) }
+    ensures { IfSome result (λ e. (e.name ≤ e.size) × (e.size ≤ e.to) × (e.from ≤ e.to) × (e.to ≤ length s.now) × (at < e.to)) }
 {
-    let name = test_support::wide(s[at]);
+    let name = s[at] as usize;
     let left = s.len() - at;
     if left < name + 5 {
-        return cut_short();
+        return None;
     }
     let size = at + 1 + name;
     let content = test_support::four(s, size);
     if left < name + 5 + content {
-        return cut_short();
+        return None;
     }
-    Entry {
+    Some(Entry {
         name: at + 1,
         size,
         from: size + 4,
         to: size + 4 + content,
-    }
+    })
 }
 
 // What the list holds at a place agrees.
@@ -65,18 +54,13 @@ fn agrees(set: &[u8], kind: Kind) -> bool {
 
 // The entries of a list, one after the other.
 fn run_all(rt: &impl Print, s: &[u8], kind: Kind) -> io::Result<()> {
-    let mut at: usize = 0;
+    let mut at = 0;
     while at < s.len() {
-        let e = entry_at(s, at);
-        let name = e.name;
-        let size = e.size;
-        let from = e.from;
-        let to = e.to;
-        if to <= at {
+        let Some(e) = entry_at(s, at) else {
             return test_support::tell_agrees(rt, b"an entry cut short", false);
-        }
-        test_support::tell_agrees(rt, &s[name..size], agrees(&s[from..to], kind))?;
-        at = to;
+        };
+        test_support::tell_agrees(rt, &s[e.name..e.size], agrees(&s[e.from..e.to], kind))?;
+        at = e.to;
     }
     Ok(())
 }

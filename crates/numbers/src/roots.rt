@@ -5,7 +5,7 @@ use std::io;
 use std::rt::Files;
 
 // How many pairs were run, and how many agree.
-#[derive(Drop)]
+#[derive(Clone, Copy)]
 struct Tally {
     run: u64,
     agree: u64,
@@ -23,17 +23,17 @@ fn agrees(s: &[u8], at: usize) -> bool
 fn run_all(s: &[u8]) -> Tally
     ensures { (result.run ≡ length s.now / 16) × (result.agree ≤ result.run) }
 {
-    let mut run: u64 = 0;
-    let mut agree: u64 = 0;
-    let mut at: usize = 0;
-    while 16 <= s.len() - at {
-        if agrees(s, at) {
+    let run = s.len() / 16;
+    let mut agree = 0;
+    for i in 0..run {
+        if agrees(s, 16 * i) {
             agree += 1;
         }
-        run += 1;
-        at += 16;
     }
-    Tally { run, agree }
+    Tally {
+        run: run as u64,
+        agree,
+    }
 }
 
 // The roots of data/.

@@ -2,22 +2,16 @@
 // polyhedron in four bytes each, then a welded number a node in four bytes.
 ghost use Rattle.std.specs.Prelude.{◌+◌, ◌*◌, ◌≤◌, length};
 
-use welding::WeldAnswer;
-
-fn wide_word(w: u32) -> u64 {
-    w as u64
-}
+use mesh::{Checks, Model};
 
 // The n numbers from `at` on are the map's.
 fn same(s: &[u8], at: usize, map: &[u32], n: usize) -> bool
     requires { (at + 4 * n ≤ length s.now) × (n ≤ length map.now) }
 {
-    let mut i = 0;
-    while i < n {
-        if wide_word(map[i]) != floats::le_four(s, at + 4 * i) {
+    for i in 0..n {
+        if map[i] as u64 != floats::le_four(s, at + 4 * i) {
             return false;
         }
-        i += 1;
     }
     true
 }
@@ -34,19 +28,16 @@ fn welds_so(set: &[u8], n: usize, k: usize) -> bool
     test_support::read_words(set, 16 + 24 * n, &mut words, k);
     let kinds = [4u8; 1];
     let ends = [k as u32; 1];
-    let answer = welding::weld(
-        &coords[0..3 * n],
-        &kinds,
-        &ends,
-        &words[0..k],
-        floats::le_f64(set, 8),
-        &mut map,
-        &mut scratch,
-    );
-    match answer {
-        WeldAnswer::Refused(_) => false,
-        WeldAnswer::Filled => same(set, 16 + 24 * n + 4 * k, &map, n),
-    }
+    let model = Model {
+        coords: &coords[0..3 * n],
+        kinds: &kinds,
+        ends: &ends,
+        words: &words[0..k],
+        tolerance: floats::le_f64(set, 8),
+        checks: Checks(0),
+        cap: 0,
+    };
+    welding::weld(&model, &mut map, &mut scratch).is_ok() && same(set, 16 + 24 * n + 4 * k, &map, n)
 }
 
 // The set's numbers agree with the welding's. A set has at most 10,000 nodes and 10,240 words.

@@ -1,9 +1,6 @@
--- `run_all` meets its contract: sixteen bytes a turn, and no more agree than were run.
-use Rattle.std.proofs.Common.{◌≡◌, ◌*◌, ◌-◌, ◌≤◌, length}
+-- No more agree than were run.
+use Rattle.std.proofs.Common.{◌≤◌}
 use Rattle.numbers.proofs.roots.run_all.Given as goal
 
-abbrev pub invariant-loop-at : goal.invariant-loop-at
-invariant-loop-at l = (l.at ≡ 16 * l.run) × (l.at ≤ length l.s) × (l.agree ≤ l.run)
-
-abbrev pub decreases-loop-at : goal.decreases-loop-at
-decreases-loop-at l = length l.s - l.at
+abbrev pub invariant-loop-i : goal.invariant-loop-i
+invariant-loop-i l = l.agree ≤ l.i

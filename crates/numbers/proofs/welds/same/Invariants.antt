@@ -1,9 +1,0 @@
--- Each turn reads within the set and within the map.
-use Rattle.std.proofs.Common.{◌-◌, ◌≤◌}
-use Rattle.numbers.proofs.welds.same.Given as goal
-
-abbrev pub invariant-loop-i : goal.invariant-loop-i
-invariant-loop-i l = l.i ≤ l.n
-
-abbrev pub decreases-loop-i : goal.decreases-loop-i
-decreases-loop-i l = l.n - l.i
