@@ -10,10 +10,10 @@ use lib.Dec.{eqb, ltb}
 use lib.ListN.{length, take, drop, length-drop}
 use lib.Seq.{sets, sets-eq, take_all, drop-drop, length-take-le}
 use lib.Ieee.{Float}
-use borrow.Author.Tests.{eqb-true, eqb-false, ltb-false, ne_eqb, not-false}
+use borrow.Author.Tests.{eqb-true, eqb-false, ltb-false, not-false}
 use Rattle.laws.specs.Limits.{record_limit}
 use Rattle.laws.specs.Lists.{All}
-use Rattle.laws.specs.Refusals.{answer, filled, refused, done}
+use Rattle.laws.specs.Refusals.{filled}
 use Rattle.laws.proofs.Tables.{refusal_first, refusal_second, unfilled}
 use Rattle.model_file.proofs.Judgement.{records_numbered}
 use Rattle.model_file.proofs.Counts.{ends_as_cells}
@@ -24,10 +24,13 @@ use Rattle.model_file.specs.Held.{Byte}
 use Rattle.model_file.specs.Reading.{room_off, read_refusal, found_in, Reading}
 use Rattle.model_file.specs.Steps.{judge}
 use Rattle.model_file.specs.declared.Found.{Found}
-use Rattle.model_file.specs.declared.ReadAnswer.TheVariants.{Refused, Read}
-use Rattle.model_read.specs.Steps.{short, Judged, Fitting, Filled, found_at}
+use Rattle.model_file.specs.declared.Stage.TheVariants.{Nodes}
+use Rattle.std.specs.Prelude.{Ok, Err}
+use Rattle.refusals.specs.Told.{number}
+use Rattle.refusals.specs.declared.Refusal.{Refusal}
+use Rattle.refusals.proofs.Told.{number-positive, ok_told, err_told}
+use Rattle.model_read.specs.Steps.{short, Counted, Fitting, Filled, found_at}
 use Rattle.model_read.specs.declared.Place.{Place}
-use Rattle.model_read.specs.declared.Tally.{Tally}
 
 -- ---- the last record stands at the end
 
@@ -90,48 +93,47 @@ module _ (s : List ℕ) (coords : List Float) (kinds ends words : List ℕ) wher
   refused-length h = rw h
 
   -- 2 and 3
-  pub refused_records : length_off (length s) ≡ false → judge 0 (records s) ≢ 0 → read_refusal s coords kinds ends words ≡ judge 0 (records s)
-  refused_records h z = rw h (refusal_first (records_table 0 (records s)) four z)
+  pub refused_records : length_off (length s) ≡ false → judge Nodes (records s) ≢ 0 → read_refusal s coords kinds ends words ≡ judge Nodes (records s)
+  refused_records h z = rw h (refusal_first (records_table Nodes (records s)) four z)
 
   -- then 4
-  then_four : length_off (length s) ≡ false → judge 0 (records s) ≡ 0 → read_refusal s coords kinds ends words ≡ cond (room_off (decode s) (length coords) (length kinds) (length ends) (length words)) 4 0
-  then_four h z = rw h (refusal_second (records_table 0 (records s)) four (records_numbered 0 (records s)) z)
+  then_four : length_off (length s) ≡ false → judge Nodes (records s) ≡ 0 → read_refusal s coords kinds ends words ≡ cond (room_off (decode s) (length coords) (length kinds) (length ends) (length words)) 4 0
+  then_four h z = rw h (refusal_second (records_table Nodes (records s)) four (records_numbered Nodes (records s)) z)
 
-  -- the room as the code judges it
-  room_is : (t : Tally) → Judged s t → t.refusal ≡ 0 → short t.place (length coords) (length kinds) (length ends) (length words) ≡ room_off (decode s) (length coords) (length kinds) (length ends) (length words)
-  unfolding decode
-  room_is t j z =
-      let n = ends_as_cells (records s) (sym j.refusal ∙ z) in
-      (λ i. ltb (length coords) (j.coords z i) || ltb (length kinds) (j.cells z i) || ltb (length ends) ((j.cells z ∙ sym n) i) || ltb (length words) (j.words z i))
+  module _ (p : Place) (j : Counted s p) where
+    -- the room as the code judges it
+    room_is : short p (length coords) (length kinds) (length ends) (length words) ≡ room_off (decode s) (length coords) (length kinds) (length ends) (length words)
+    unfolding decode
+    room_is =
+        let n = ends_as_cells (records s) j.judged in
+        (λ i. ltb (length coords) (j.coords i) || ltb (length kinds) (j.cells i) || ltb (length ends) ((j.cells ∙ sym n) i) || ltb (length words) (j.words i))
 
-  module _ (t : Tally) (j : Judged s t) (z : t.refusal ≡ 0) (h : length_off (length s) ≡ false) where
-    pub refused_room : short t.place (length coords) (length kinds) (length ends) (length words) ≡ true → read_refusal s coords kinds ends words ≡ 4
-    refused_room e = then_four h (sym j.refusal ∙ z) ∙ ap (λ (b : Bool). cond b 4 0) (sym (room_is t j z) ∙ e)
+    module _ (h : length_off (length s) ≡ false) where
+      pub refused_room : short p (length coords) (length kinds) (length ends) (length words) ≡ true → read_refusal s coords kinds ends words ≡ 4
+      refused_room e = then_four h j.judged ∙ ap (λ (b : Bool). cond b 4 0) (sym room_is ∙ e)
 
-    module _ (e : short t.place (length coords) (length kinds) (length ends) (length words) ≡ false) where
-      pub refused_none : read_refusal s coords kinds ends words ≡ 0
-      refused_none = then_four h (sym j.refusal ∙ z) ∙ ap (λ (b : Bool). cond b 4 0) (sym (room_is t j z) ∙ e)
+      module _ (e : short p (length coords) (length kinds) (length ends) (length words) ≡ false) where
+        pub refused_none : read_refusal s coords kinds ends words ≡ 0
+        refused_none = then_four h j.judged ∙ ap (λ (b : Bool). cond b 4 0) (sym room_is ∙ e)
 
-      -- the file fits
-      pub fitting : Fitting s (length coords) (length kinds) (length ends) (length words)
-      fitting =
-          let p = t.place in
-          let a = ltb (length coords) p.coords in
-          let b = ltb (length kinds) p.cells in
-          let c = ltb (length ends) p.cells in
-          let q = or_none (a || b || c) (ltb (length words) p.words) e in
-          let r = or_none (a || b) c q.0 in
-          let v = or_none a b r.0 in
-          let w = length_whole s h in
-          record {
-            whole = w.whole;
-            short = w.few;
-            judged_well = sym j.refusal ∙ z;
-            coords_fit = omega (arith, j.coords z, ltb-false (length coords) p.coords v.0);
-            kinds_fit = omega (arith, j.cells z, ltb-false (length kinds) p.cells v.1);
-            ends_fit = omega (arith, j.cells z, ltb-false (length ends) p.cells r.1);
-            words_fit = omega (arith, j.words z, ltb-false (length words) p.words q.1);
-          }
+        -- the file fits
+        pub fitting : Fitting s (length coords) (length kinds) (length ends) (length words)
+        fitting =
+            let a = ltb (length coords) p.coords in
+            let b = ltb (length kinds) p.cells in
+            let c = ltb (length ends) p.cells in
+            let q = or_none (a || b || c) (ltb (length words) p.words) e in
+            let r = or_none (a || b) c q.0 in
+            let v = or_none a b r.0 in
+            let w = length_whole s h in
+            record {
+              short = w.few;
+              judged_well = j.judged;
+              coords_fit = omega (arith, j.coords, ltb-false (length coords) p.coords v.0);
+              kinds_fit = omega (arith, j.cells, ltb-false (length kinds) p.cells v.1);
+              ends_fit = omega (arith, j.cells, ltb-false (length ends) p.cells r.1);
+              words_fit = omega (arith, j.words, ltb-false (length words) p.words q.1);
+            }
 
 -- ---- the whole contract
 
@@ -142,30 +144,31 @@ front_filled n xs l l' h fit w =
 
 module _ (s : List ℕ) (coords : List Float) (kinds ends words : List ℕ) (b : All Byte s) where
   -- a refusal's number, and every list as it was
-  pub reading_refused : (n : ℕ) → read_refusal s coords kinds ends words ≡ n → n ≢ 0 → Reading s coords coords kinds kinds ends ends words words (Refused n)
-  reading_refused n h p =
+  pub reading_refused : (e : Refusal) → read_refusal s coords kinds ends words ≡ number e → Reading s coords coords kinds kinds ends ends words words (Err e)
+  reading_refused e h =
       let m = read_refusal s coords kinds ends words in
+      let p : number e ≢ 0 = λ z. omega (arith, number-positive e) in
       record {
-        answered = sym (ap (λ (k : ℕ). answer k (found_in (decode s))) h ∙ ap (λ (b : Bool). cond b (done (found_in (decode s))) (refused n)) (ne_eqb n 0 p));
+        answered = err_told {A = Found} {B = Found} (λ a. a) e m (found_in (decode s)) (sym h);
         memory =
             record {
-              coords_are = unfilled m n (decode s).coords coords h p;
-              kinds_are = unfilled m n (decode s).kinds kinds h p;
-              ends_are = unfilled m n (decode s).ends ends h p;
-              words_are = unfilled m n (decode s).words words h p;
+              coords_are = unfilled m (number e) (decode s).coords coords h p;
+              kinds_are = unfilled m (number e) (decode s).kinds kinds h p;
+              ends_are = unfilled m (number e) (decode s).ends ends h p;
+              words_are = unfilled m (number e) (decode s).words words h p;
             };
         bytes = b;
       }
 
   -- what is found, and every list filled
   pub reading_done : (coords' : List Float) (kinds' ends' words' : List ℕ) (f : Found) → f ≡ found_in (decode s) → read_refusal s coords kinds ends words ≡ 0
-      → Fitting s (length coords) (length kinds) (length ends) (length words) → Filled s coords coords' kinds kinds' ends ends' words words' → Reading s coords coords' kinds kinds' ends ends' words words' (Read f)
+      → Fitting s (length coords) (length kinds) (length ends) (length words) → Filled s coords coords' kinds kinds' ends ends' words words' → Reading s coords coords' kinds kinds' ends ends' words words' (Ok f)
   unfolding decode
   reading_done coords' kinds' ends' words' f q h ok g =
       let m = read_refusal s coords kinds ends words in
       let n = ends_as_cells (records s) ok.judged_well in
       record {
-        answered = ap done q ∙ sym (ap (λ (k : ℕ). answer k (found_in (decode s))) h);
+        answered = ok_told {A = Found} {B = Found} (λ a. a) f m (found_in (decode s)) h q;
         memory =
             record {
               coords_are = front_filled m (coords_of (records s)) coords coords' h ok.coords_fit g.coords_are;

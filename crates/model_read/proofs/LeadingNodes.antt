@@ -1,25 +1,28 @@
 -- The leading nodes of a file: how they are counted, what they add, and what is left behind them.
-use Prim.Native.Nat.{ℕ, zero, suc, ◌+◌, ◌*◌, ◌-◌, ◌/◌, ◌%◌, ◌≤◌, ◌<◌}
+use Prim.Native.Nat.{ℕ, zero, suc, ◌+◌, ◌*◌, ◌-◌, ◌/◌, ◌≤◌, ◌<◌}
 use mathlib.Core.Path.{◌≡◌, refl, sym, ap, ◌∙◌, subst, subst₂}
 use mathlib.Core.Bool.{Bool, true, false, not, cond, ◌&&◌, not-not}
 use mathlib.Core.List.{List, [], ◌∷◌, ◌++◌, append-nil}
 use native.Mathlib.Nat.{sub-zero}
 use native.Mathlib.Omega.{arith}
+use Rattle.std.specs.Prelude.{Option, Some, None}
 use lib.Dec.{eqb}
 use lib.ListN.{length, get_or, take, drop, length-append, length-drop}
 use lib.Seq.{slice, sets, take-take, drop-drop}
 use lib.Ieee.{Float}
-use borrow.Author.Tests.{eqb-true, eq-eqb, ne_eqb, not-true, not-false}
+use borrow.Author.Tests.{eq-eqb, ne_eqb, not-true, not-false}
 use Rattle.laws.specs.Bytes.{number, zeros}
 use Rattle.laws.specs.Refusals.{refusal}
 use Rattle.laws.proofs.Stores.{take-drop, sets_append}
-use Rattle.laws.proofs.Tests.{and_parts}
-use Rattle.model_file.specs.Records.{letter, count, coords_in, record_off, misplaced, stage}
+use Rattle.laws.proofs.Tests.{and_parts, clash}
+use Rattle.model_file.specs.Records.{letter, count, coords_in, record_off, misplaced, stage, in_nodes}
 use Rattle.model_file.specs.File.{chop, records, coords_of, kinds_of, words_of, ends_of, records_table}
 use Rattle.model_file.specs.Steps.{judge}
 use Rattle.model_file.specs.declared.Letter.{Letter}
-use Rattle.model_file.specs.declared.Letter.TheVariants.{Node, Cell, More, Last, Other}
-use Rattle.model_file.proofs.Judgement.{passed, stage_pos}
+use Rattle.model_file.specs.declared.Letter.TheVariants.{Node, Cell, More, Last}
+use Rattle.model_file.specs.declared.Stage.{Stage}
+use Rattle.model_file.specs.declared.Stage.TheVariants.{Nodes as Begun, Done}
+use Rattle.model_file.proofs.Judgement.{passed, stage_cells}
 use Rattle.model_file.proofs.Decoded.{coords_step, kinds_step, words_step, ends_step}
 use Rattle.model_read.specs.Steps.{right_node, leading, Nodes, node_coords}
 use Rattle.model_read.proofs.JudgePass.{Judging, records_step}
@@ -64,7 +67,7 @@ leading_end s n h =
 
 -- nodes in front of other records
 pub record Led (front rest rs : List (List ℕ)) : Type 0 where
-  pub judged : judge 0 rest ≡ judge 0 rs
+  pub judged : judge Begun rest ≡ judge Begun rs
   pub coords : coords_of rs ≡ node_coords front ++ coords_of rest
   pub kinds : kinds_of rest ≡ kinds_of rs
   pub ends : ends_of false 0 rest ≡ ends_of false 0 rs
@@ -74,14 +77,14 @@ pub record Led (front rest rs : List (List ℕ)) : Type 0 where
 -- one node more
 led_more : (r : List ℕ) (front rest rs : List (List ℕ)) → right_node r ≡ true → Led front rest rs → Led (r ∷ front) rest (r ∷ rs)
 led_more r front rest rs h p =
-    let q = and_parts (eqb (get_or r 0 0) 78) (not (record_off Node r)) h in
-    let e : letter r ≡ Node = rw q.0 in
+    let q = and_parts (eqb (get_or r 0 0) 78) (not (record_off (Some Node) r)) h in
+    let e : letter r ≡ Some Node = rw q.0 in
     record {
-      judged = p.judged ∙ sym (ap (λ (l : Letter). refusal ((2, misplaced 0 l) ∷ (3, record_off l r) ∷ records_table (stage l r) rs)) e ∙ ap (λ (b : Bool). cond b 3 (judge 0 rs)) (not-true (record_off Node r) q.1));
-      coords = coords_step r rs Node e ∙ ap (λ (l : List Float). coords_in Node r ++ l) p.coords;
-      kinds = p.kinds ∙ sym (kinds_step r rs Node e);
-      ends = p.ends ∙ sym (ends_step r rs Node e false 0);
-      words = p.words ∙ sym (words_step r rs Node e);
+      judged = p.judged ∙ sym (ap (λ (l : Option Letter). refusal ((2, misplaced Begun l) ∷ (3, record_off l r) ∷ records_table (stage l r) rs)) e ∙ ap (λ (b : Bool). cond b 3 (judge Begun rs)) (not-true (record_off (Some Node) r) q.1));
+      coords = coords_step r rs (Some Node) e ∙ ap (λ (l : List Float). coords_in (Some Node) r ++ l) p.coords;
+      kinds = p.kinds ∙ sym (kinds_step r rs (Some Node) e);
+      ends = p.ends ∙ sym (ends_step r rs (Some Node) e false 0);
+      words = p.words ∙ sym (words_step r rs (Some Node) e);
       none = p.none;
     }
 
@@ -97,34 +100,34 @@ led (r ∷ rs) = go (right_node r) refl (led rs)
 -- ---- no node stands behind them
 
 -- an N with nothing wrong leads
-node_leads : (r : List ℕ) → letter r ≡ Node → record_off Node r ≡ false → right_node r ≡ true
+node_leads : (r : List ℕ) → letter r ≡ Some Node → record_off (Some Node) r ≡ false → right_node r ≡ true
 node_leads r e g = go (eqb (get_or r 0 0) 78) refl
   where
     go : (b : Bool) → eqb (get_or r 0 0) 78 ≡ b → right_node r ≡ true
     go true h = rw (h, g)
-    go false h = absurd (no_node (eqb (get_or r 0 0) 67) (eqb (get_or r 0 0) 75) (eqb (get_or r 0 0) 84) (sym (ap (λ (b : Bool). cond b Node (cond (eqb (get_or r 0 0) 67) Cell (cond (eqb (get_or r 0 0) 75) More (cond (eqb (get_or r 0 0) 84) Last Other)))) h) ∙ e))
+    go false h = absurd (no_node (eqb (get_or r 0 0) 67) (eqb (get_or r 0 0) 75) (eqb (get_or r 0 0) 84) (sym (ap (λ (b : Bool). cond b (Some Node) (cond (eqb (get_or r 0 0) 67) (Some Cell) (cond (eqb (get_or r 0 0) 75) (Some More) (cond (eqb (get_or r 0 0) 84) (Some Last) None)))) h) ∙ e))
       where
-        no_node : (a b c : Bool) → cond a Cell (cond b More (cond c Last Other)) ≡ Node → ⊥
-        no_node true b c k = let z : ◌≡◌ {A = ℕ} 0 1 = cc in omega arith
-        no_node false true c k = let z : ◌≡◌ {A = ℕ} 0 1 = cc in omega arith
-        no_node false false true k = let z : ◌≡◌ {A = ℕ} 0 1 = cc in omega arith
-        no_node false false false k = let z : ◌≡◌ {A = ℕ} 0 1 = cc in omega arith
+        no_node : (a b c : Bool) → cond a (Some Cell) (cond b (Some More) (cond c (Some Last) None)) ≡ Some Node → ⊥
+        no_node true b c k = cc
+        no_node false true c k = cc
+        no_node false false true k = cc
+        no_node false false false k = cc
 
 -- records with nothing wrong, none of them leading: no coordinates
-pub none_behind : (rs : List (List ℕ)) (st : ℕ) → judge st rs ≡ 0 → (st ≡ 0 → leading rs ≡ 0) → coords_of rs ≡ []
+pub none_behind : (rs : List (List ℕ)) (st : Stage) → judge st rs ≡ 0 → (in_nodes st ≡ true → leading rs ≡ 0) → coords_of rs ≡ []
 none_behind [] st j h = refl
 none_behind (r ∷ rs) st j h = go (letter r) refl (λ t k n. none_behind rs t k n)
   where
-    go : (l : Letter) → letter r ≡ l → ((t : ℕ) → judge t rs ≡ 0 → (t ≡ 0 → leading rs ≡ 0) → coords_of rs ≡ []) → coords_of (r ∷ rs) ≡ []
-    go Node e ih =
-        let q = passed st r rs Node e j in
-        let z = eqb-true st 0 (not-false (eqb st 0) q.place) in
+    go : (l : Option Letter) → letter r ≡ l → ((t : Stage) → judge t rs ≡ 0 → (in_nodes t ≡ true → leading rs ≡ 0) → coords_of rs ≡ []) → coords_of (r ∷ rs) ≡ []
+    go (Some Node) e ih =
+        let q = passed st r rs (Some Node) e j in
+        let z = not-false (in_nodes st) q.place in
         let n = sym (ap (λ (b : Bool). cond b (suc (leading rs)) 0) (node_leads r e q.good)) ∙ h z in
         absurd (omega arith)
-    go Cell e ih = coords_step r rs Cell e ∙ ih (stage Cell r) (passed st r rs Cell e j).rest (λ z. absurd (omega (arith, stage_pos (count r))))
-    go More e ih = coords_step r rs More e ∙ ih (stage More r) (passed st r rs More e j).rest (λ z. absurd (omega (arith, stage_pos (count r))))
-    go Last e ih = coords_step r rs Last e ∙ ih 3 (passed st r rs Last e j).rest (λ z. absurd (omega arith))
-    go Other e ih = coords_step r rs Other e ∙ ih 3 (passed st r rs Other e j).rest (λ z. absurd (omega arith))
+    go (Some Cell) e ih = coords_step r rs (Some Cell) e ∙ ih (stage (Some Cell) r) (passed st r rs (Some Cell) e j).rest (λ z. clash z (stage_cells (count r)))
+    go (Some More) e ih = coords_step r rs (Some More) e ∙ ih (stage (Some More) r) (passed st r rs (Some More) e j).rest (λ z. clash z (stage_cells (count r)))
+    go (Some Last) e ih = coords_step r rs (Some Last) e ∙ ih Done (passed st r rs (Some Last) e j).rest (λ z. clash z refl)
+    go None e ih = coords_step r rs None e ∙ ih Done (passed st r rs None e j).rest (λ z. clash z refl)
 
 -- ---- of a file
 
@@ -155,19 +158,19 @@ behind s n h =
 -- three coordinates each
 length-node_coords : (n : ℕ) (s : List ℕ) → length (node_coords (chop n s)) ≡ 3 * n
 length-node_coords zero s = refl
-length-node_coords (suc n) s = let i = length-node_coords n (drop 32 s) in omega (arith, length-append (coords_in Node (take 32 s)) (node_coords (chop n (drop 32 s))))
+length-node_coords (suc n) s = let i = length-node_coords n (drop 32 s) in omega (arith, length-append (coords_in (Some Node) (take 32 s)) (node_coords (chop n (drop 32 s))))
 
 -- the judging pass starts behind them
-pub judging_start : (s : List ℕ) (n : ℕ) → length s % 32 ≡ 0 → Nodes s n → Judging s 0 (record { coords = 3 * n; cells = 0; words = 0 }) (32 * n)
-judging_start s n w h =
+pub judging_start : (s : List ℕ) (n : ℕ) → Nodes s n → Judging s Begun (record { coords = 3 * n; cells = 0; words = 0 }) (drop (32 * n) s)
+judging_start s n h =
     let p = behind s n h in
     let a = ap length p.coords ∙ length-append (node_coords (chop n s)) (coords_of (records (drop (32 * n) s))) in
     let b = length-node_coords n s in
     let c = ap length p.kinds in
     let d = ap length p.words in
+    let e = length-drop (32 * n) s in
+    let f = h.inside in
     record {
-      inside = h.inside;
-      whole = omega (arith, h.inside);
       judged = p.judged;
       coords = omega arith;
       cells = omega arith;
@@ -182,7 +185,7 @@ judging_start s n w h =
 pub nodes_start : (l : List Float) (n : ℕ) (s : List ℕ) → sets l (3 * 0) (node_coords (chop (n - 0) (drop (32 * 0) s))) ≡ sets l 0 (node_coords (chop n s))
 nodes_start l n s = rw sub-zero
 
-pub nodes_more : (l l' : List Float) (n i : ℕ) (s : List ℕ) → i < n → l' ≡ sets l (3 * i) (coords_in Node (take 32 (drop (32 * i) s)))
+pub nodes_more : (l l' : List Float) (n i : ℕ) (s : List ℕ) → i < n → l' ≡ sets l (3 * i) (coords_in (Some Node) (take 32 (drop (32 * i) s)))
     → sets l' (3 * (i + 1)) (node_coords (chop (n - (i + 1)) (drop (32 * (i + 1)) s))) ≡ sets l (3 * i) (node_coords (chop (n - i) (drop (32 * i) s)))
 nodes_more l l' n i s h e =
     let a : n - i ≡ suc (n - (i + 1)) = omega arith in
@@ -190,15 +193,15 @@ nodes_more l l' n i s h e =
     let d : 32 * i + 32 ≡ 32 * (i + 1) = omega arith in
     let r = take 32 (drop (32 * i) s) in
     sym (ap (λ (k : ℕ). sets l (3 * i) (node_coords (chop k (drop (32 * i) s)))) a
-    ∙ sets_append l (3 * i) (coords_in Node r) (node_coords (chop (n - (i + 1)) (drop 32 (drop (32 * i) s))))
+    ∙ sets_append l (3 * i) (coords_in (Some Node) r) (node_coords (chop (n - (i + 1)) (drop 32 (drop (32 * i) s))))
     ∙ (λ j. sets (sym e j) (b j) (node_coords (chop (n - (i + 1)) ((drop-drop 32 (32 * i) s ∙ ap (λ (k : ℕ). drop k s) d) j)))))
 
 pub nodes_end : (l : List Float) (n i : ℕ) (s : List ℕ) → n ≤ i → sets l (3 * i) (node_coords (chop (n - i) (drop (32 * i) s))) ≡ l
 nodes_end l n i s h = let a : n - i ≡ 0 = omega arith in rw a
 
 -- they are stored, and these are all coordinates
-pub nodes_stored : (l l' : List Float) (n : ℕ) (s : List ℕ) → Nodes s n → judge 0 (records s) ≡ 0 → l' ≡ sets l 0 (node_coords (chop n s)) → l' ≡ sets l 0 (coords_of (records s))
+pub nodes_stored : (l l' : List Float) (n : ℕ) (s : List ℕ) → Nodes s n → judge Begun (records s) ≡ 0 → l' ≡ sets l 0 (node_coords (chop n s)) → l' ≡ sets l 0 (coords_of (records s))
 nodes_stored l l' n s h j e =
     let p = behind s n h in
-    let z = none_behind (records (drop (32 * n) s)) 0 (p.judged ∙ j) (λ _. p.none) in
+    let z = none_behind (records (drop (32 * n) s)) Begun (p.judged ∙ j) (λ _. p.none) in
     e ∙ ap (sets l 0) (sym (p.coords ∙ ap (λ (t : List Float). node_coords (chop n s) ++ t) z ∙ append-nil (node_coords (chop n s))))

@@ -16,13 +16,6 @@ use Rattle.model_read.specs.Steps.{words_between}
 pub two_bytes : (s : List ℕ) (at : ℕ) → number (slice at (at + 2) s) ≡ number (take 2 (drop at s))
 two_bytes s at = ap number (sym (take-drop at 2 s))
 
--- a word stored, and those behind it
-pub word_more : (l : List ℕ) (o p from next m : ℕ) (r : List ℕ) (v : ℕ) → p ≡ o + 1 → next ≡ from + 2 → v ≡ widen (number (take 2 (drop from r)))
-    → sets (set l o v) p (words_at m (drop next r)) ≡ sets l o (words_at (suc m) (drop from r))
-word_more l o p from next m r v a b e =
-    let s : p ≡ suc o = omega arith in
-    (λ i. sets (set l o (e i)) (s i) (words_at m ((ap (λ (k : ℕ). drop k r) b ∙ sym (drop-drop 2 from r)) i)))
-
 -- words, and more behind them
 words_add : (a b : ℕ) (l : List ℕ) → words_at (a + b) l ≡ words_at a l ++ words_at b (drop (2 * a) l)
 words_add zero b l = ap (λ (n : ℕ). words_at n l) (zero-add b)
@@ -43,9 +36,14 @@ words_on l at i j k r h m =
     ∙ sets_append l (at + i) (words_between i j r) (words_between j k r)
     ∙ ap (λ (n : ℕ). sets (sets l (at + i) (words_between i j r)) n (words_between j k r)) (ap (λ (n : ℕ). at + i + n) e ∙ g))
 
--- no word
-pub words_none : (l : List ℕ) (at j n : ℕ) (r : List ℕ) → n ≤ j → l ≡ sets l (at + j) (words_between j n r)
-words_none l at j n r h = let z : 0 ≡ n - j = omega arith in ap (λ (m : ℕ). sets l (at + j) (words_at m (drop (4 + 2 * j) r))) z
+-- one word more
+pub word_next : (l₀ l : List ℕ) (at j i : ℕ) (r : List ℕ) (v : ℕ) → v ≡ widen (number (take 2 (drop (4 + 2 * (j + i)) r))) → l ≡ sets l₀ (at + j) (words_between j (j + i) r) → set l (at + j + i) v ≡ sets l₀ (at + j) (words_between j (j + (i + 1)) r)
+word_next l₀ l at j i r v e w =
+    let o : at + j + i ≡ at + (j + i) = omega arith in
+    let n : 1 ≡ j + (i + 1) - (j + i) = omega arith in
+    (λ k. set (w k) (o k) (e k))
+    ∙ ap (λ (m : ℕ). sets (sets l₀ (at + j) (words_between j (j + i) r)) (at + (j + i)) (words_at m (drop (4 + 2 * (j + i)) r))) n
+    ∙ words_on l₀ at j (j + i) (j + (i + 1)) r (omega arith) (omega arith)
 
 -- all words
 pub words_all : (l : List ℕ) (at n : ℕ) (r : List ℕ) → sets l (at + 0) (words_between 0 n r) ≡ sets l at (words_at n (drop 4 r))

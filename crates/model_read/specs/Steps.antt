@@ -1,23 +1,26 @@
 -- For internal contracts: how far the lists are filled, and what the passes over records need and leave.
-use Rattle.std.specs.Prelude.{ℕ, suc, ◌+◌, ◌*◌, ◌-◌, ◌/◌, ◌%◌, ◌^◌, ◌≤◌, ◌<◌, ◌≡◌, Bool, false, not, cond, ◌&&◌, ◌||◌, List, [], ◌∷◌, eqb, ltb, length, get_or, drop, Float}
+use Rattle.std.specs.Prelude.{ℕ, suc, ◌+◌, ◌*◌, ◌-◌, ◌/◌, ◌^◌, ◌≤◌, ◌<◌, ◌≡◌, Bool, false, not, cond, ◌&&◌, ◌||◌, Option, Some, List, [], ◌∷◌, eqb, ltb, length, get_or, drop, Float, Result, MatchResult}
 use Rattle.std.proofs.lemmas.List.Edits.{sets}
 use Rattle.laws.specs.Lists.{each}
 use Rattle.model_file.specs.Records.{letter, byte1, float_at, cap_in, words_at, coords_in, kinds_in, words_in, ends_in, record_off}
 use Rattle.model_file.specs.File.{records, coords_of, kinds_of, words_of, ends_of}
-use Rattle.model_file.specs.Steps.{judge}
+use Rattle.model_file.specs.Steps.{judge, record_refusal}
 use Rattle.model_file.specs.declared.Letter.{Letter}
 use Rattle.model_file.specs.declared.Letter.TheVariants.{Node}
+use Rattle.model_file.specs.declared.Stage.{Stage}
+use Rattle.model_file.specs.declared.Stage.TheVariants.{Nodes as Begun}
+use Rattle.refusals.specs.Told.{number}
+use Rattle.refusals.specs.declared.Refusal.{Refusal}
 use Rattle.model_file.specs.declared.Found.{Found}
 use Rattle.model_read.specs.declared.Place.{Place}
-use Rattle.model_read.specs.declared.Tally.{Tally}
 
 -- the place in the lists after a record
-abbrev pub after : Letter → List ℕ → Place → Place
+abbrev pub after : Option Letter → List ℕ → Place → Place
 after l r p = record { coords = p.coords + length (coords_in l r); cells = p.cells + length (kinds_in l r); words = p.words + length (words_in l r) }
 
 -- an N with nothing wrong
 abbrev pub right_node : List ℕ → Bool
-right_node r = eqb (get_or r 0 0) 78 && not (record_off Node r)
+right_node r = eqb (get_or r 0 0) 78 && not (record_off (Some Node) r)
 
 -- how many records from the first on are such
 abbrev pub leading : List (List ℕ) → ℕ
@@ -31,14 +34,22 @@ pub record Nodes (s : List ℕ) (n : ℕ) : Type 0 where
 
 -- the coordinates of records that are N
 abbrev pub node_coords : List (List ℕ) → List Float
-node_coords rs = each (coords_in Node) rs
+node_coords rs = each (coords_in (Some Node)) rs
 
--- the judging pass: the refusal, and where there is none what the file holds
-pub record Judged (s : List ℕ) (t : Tally) : Type 0 where
-  pub refusal : t.refusal ≡ judge 0 (records s)
-  pub coords : t.refusal ≡ 0 → t.place.coords ≡ length (coords_of (records s))
-  pub cells : t.refusal ≡ 0 → t.place.cells ≡ length (kinds_of (records s))
-  pub words : t.refusal ≡ 0 → t.place.words ≡ length (words_of (records s))
+-- a record at a stage: its letter, or the refusal
+abbrev pub RecordJudged : Stage → List ℕ → Result Letter Refusal → Type 0
+RecordJudged s r x = MatchResult x (λ l. (letter r ≡ Some l) × (record_refusal s r ≡ 0)) (λ e. record_refusal s r ≡ number e)
+
+-- a file with nothing wrong, and how much it holds
+pub record Counted (s : List ℕ) (p : Place) : Type 0 where
+  pub judged : judge Begun (records s) ≡ 0
+  pub coords : p.coords ≡ length (coords_of (records s))
+  pub cells : p.cells ≡ length (kinds_of (records s))
+  pub words : p.words ≡ length (words_of (records s))
+
+-- the judging pass: how much the file holds, or the refusal
+abbrev pub Judged : List ℕ → Result Place Refusal → Type 0
+Judged s x = MatchResult x (Counted s) (λ e. judge Begun (records s) ≡ number e)
 
 -- lists of these lengths, one of them too short
 abbrev pub short : Place → ℕ → ℕ → ℕ → ℕ → Bool
@@ -75,9 +86,8 @@ pub record Put (r : List ℕ) (p q : Place) (kinds kinds' ends ends' words words
 
 -- a file, and lists of these lengths that it fits into
 pub record Fitting (s : List ℕ) (coords kinds ends words : ℕ) : Type 0 where
-  pub whole : length s % 32 ≡ 0
   pub short : length s ≤ 4194304
-  pub judged_well : judge 0 (records s) ≡ 0
+  pub judged_well : judge Begun (records s) ≡ 0
   pub coords_fit : length (coords_of (records s)) ≤ coords
   pub kinds_fit : length (kinds_of (records s)) ≤ kinds
   pub ends_fit : length (kinds_of (records s)) ≤ ends

@@ -1,39 +1,13 @@
 // The judging pass: records one by one, nothing stored.
-ghost use Rattle.std.specs.Prelude.{◌≡◌, cond, ◌+◌, ◌%◌, ◌≤◌, ◌<◌, ◌^◌, length};
+ghost use Rattle.std.specs.Prelude.{◌≡◌, Some, ◌+◌, ◌%◌, ◌≤◌, ◌<◌, ◌^◌, length};
 ghost use Rattle.std.proofs.Math.Seq.{slice};
 ghost use Rattle.laws.specs.Bytes.{zeros};
-ghost use Rattle.model_file.specs.Records.{letter_of, letter, misplaced, stage, record_off, words_right};
-ghost use Rattle.model_file.specs.Steps.{record_refusal};
-ghost use Rattle.model_read.specs.Steps.{after, Nodes, Judged};
+ghost use Rattle.model_file.specs.Records.{misplaced, stage, record_off, words_right};
+ghost use Rattle.model_read.specs.Steps.{after, Nodes, RecordJudged, Judged};
 
-use crate::{Place, Tally};
-use model_file::Letter;
-
-// What a record is, by its first byte.
-pub fn letter_of(b: u8) -> Letter
-    ensures { result ≡ letter_of b }
-{
-    if b == 78 {
-        return Letter::Node;
-    }
-    if b == 67 {
-        return Letter::Cell;
-    }
-    if b == 75 {
-        return Letter::More;
-    }
-    if b == 84 {
-        return Letter::Last;
-    }
-    Letter::Other
-}
-
-// A byte as a count.
-pub fn size(b: u8) -> usize
-    ensures { (result ≡ b) × (result < 256) }
-{
-    b as usize
-}
+use crate::Place;
+use model_file::{Letter, Stage};
+use refusals::Refusal;
 
 // Whether eight bytes are zero.
 fn zero_eight(r: &[u8], at: usize) -> bool
@@ -102,13 +76,13 @@ fn words_right(r: &[u8], least: u8) -> bool
     if n == 14 {
         return true;
     }
-    rest_zero(r, 4 + 2 * size(n))
+    rest_zero(r, 4 + 2 * (n as usize))
 }
 
 // A count or zero byte is wrong.
 fn record_off(l: Letter, r: &[u8]) -> bool
     requires { length r.now ≡ 32 }
-    ensures { result ≡ record_off l r.now }
+    ensures { result ≡ record_off (Some l) r.now }
 {
     match l {
         Letter::Node => !(zero_four(r, 1) & zero_four(r, 4)),
@@ -125,103 +99,80 @@ fn record_off(l: Letter, r: &[u8]) -> bool
             }
             !zero_sixteen(r, 16)
         }
-        Letter::Other => false,
     }
 }
 
-// A letter is unknown, or misplaced at a stage.
-fn letter_off(s: u8, l: Letter) -> bool
-    ensures { result ≡ misplaced s l }
+// A letter is misplaced at a stage.
+fn misplaced(s: Stage, l: Letter) -> bool
+    ensures { result ≡ misplaced s (Some l) }
 {
     match l {
-        Letter::Node => s != 0,
-        Letter::Cell => !(s < 3),
-        Letter::More => s != 2,
-        Letter::Last => !(s < 3),
-        Letter::Other => true,
+        Letter::Node => s != Stage::Nodes,
+        Letter::Cell => s == Stage::Done,
+        Letter::More => s != Stage::Full,
+        Letter::Last => s == Stage::Done,
     }
+}
+
+// A record's letter, where the record is not refused at a stage: 2 before 3.
+fn judge_record(s: Stage, r: &[u8]) -> Result<Letter, Refusal>
+    requires { length r.now ≡ 32 }
+    ensures { RecordJudged s r.now result }
+{
+    let l = Letter::try_from(r[0])?;
+    if misplaced(s, l) {
+        return Err(Refusal::Letter);
+    }
+    if record_off(l, r) {
+        return Err(Refusal::RecordBytes);
+    }
+    Ok(l)
 }
 
 // The stage after a C or K.
-fn full(r: &[u8]) -> u8
+fn full(r: &[u8]) -> Stage
     requires { length r.now ≡ 32 }
-    ensures { result ≡ stage Letter.Cell r.now }
+    ensures { result ≡ stage (Some Letter.Cell) r.now }
 {
     if r[2] == 14 {
-        return 2;
+        return Stage::Full;
     }
-    1
+    Stage::Cells
 }
 
 // The stage after a record.
-fn stage_after(l: Letter, r: &[u8]) -> u8
+fn stage_after(l: Letter, r: &[u8]) -> Stage
     requires { length r.now ≡ 32 }
-    ensures { result ≡ stage l r.now }
+    ensures { result ≡ stage (Some l) r.now }
 {
     match l {
-        Letter::Node => 0,
+        Letter::Node => Stage::Nodes,
         Letter::Cell => full(r),
         Letter::More => full(r),
-        Letter::Last => 3,
-        Letter::Other => 3,
+        Letter::Last => Stage::Done,
     }
-}
-
-// The number of the first of two tests that holds, 0 for none.
-fn first_of(a: bool, n: u8, b: bool, m: u8) -> u8
-    ensures { result ≡ cond a n (cond b m 0) }
-{
-    if a {
-        return n;
-    }
-    if b {
-        return m;
-    }
-    0
-}
-
-// 2 before 3.
-fn refusal_of(s: u8, l: Letter, r: &[u8]) -> u8
-    requires { (length r.now ≡ 32) × (l ≡ letter r.now) }
-    ensures { result ≡ record_refusal s r.now }
-{
-    let misplaced = letter_off(s, l);
-    let wrong = record_off(l, r);
-    first_of(misplaced, 2, wrong, 3)
 }
 
 // The place after a record.
 pub fn place_after(l: Letter, r: &[u8], p: Place) -> Place
     requires { (length r.now ≡ 32) × (p.coords < 2 ^ 40) × (p.cells < 2 ^ 40) × (p.words < 2 ^ 40) }
-    ensures { result ≡ after l r.now p }
+    ensures { result ≡ after (Some l) r.now p }
 {
     match l {
         Letter::Node => Place {
             coords: p.coords + 3,
-            cells: p.cells,
-            words: p.words,
+            ..p
         },
         Letter::Cell => Place {
             coords: p.coords,
             cells: p.cells + 1,
-            words: p.words + size(r[2]),
+            words: p.words + r[2] as usize,
         },
         Letter::More => Place {
-            coords: p.coords,
-            cells: p.cells,
-            words: p.words + size(r[2]),
+            words: p.words + r[2] as usize,
+            ..p
         },
         Letter::Last => p,
-        Letter::Other => p,
-    }
-}
-
-fn tally_of(n: u8, p: Place) -> Tally
-    ensures { (result.refusal ≡ n) × (result.place ≡ p) }
-{
-    Tally {
-        refusal: n,
-        place: p,
     }
 }
 
@@ -230,42 +181,32 @@ pub fn leading_nodes(bytes: &[u8]) -> usize
     ensures { Nodes bytes.now result }
 {
     let most = bytes.len() / 32;
-    let mut n = 0;
-    while n < most {
+    for n in 0..most {
         if floats::le_u64(bytes, 32 * n) != 78 {
             return n;
         }
-        n += 1;
     }
-    n
+    most
 }
 
 // The judging pass, from behind the leading nodes on.
-pub fn judge_all(bytes: &[u8], nodes: usize) -> Tally
+pub fn judge_all(bytes: &[u8], nodes: usize) -> Result<Place, Refusal>
     requires { (length bytes.now % 32 ≡ 0) × (length bytes.now ≤ 4194304) × Nodes bytes.now nodes }
     ensures { Judged bytes.now result }
 {
-    let mut stage: u8 = 0;
+    let mut stage = Stage::Nodes;
     let mut p = Place {
         coords: 3 * nodes,
         cells: 0,
         words: 0,
     };
-    let mut at = 32 * nodes;
-    while at < bytes.len() {
-        let e = at + 32;
-        let r = &bytes[at..e];
-        let l = letter_of(r[0]);
-        let n = refusal_of(stage, l, r);
-        if n != 0 {
-            return tally_of(n, p);
-        }
-        p = place_after(l, r, p);
-        stage = stage_after(l, r);
-        at = e;
+    for record in bytes[32 * nodes..].chunks_exact(32) {
+        let l = judge_record(stage, record)?;
+        p = place_after(l, record, p);
+        stage = stage_after(l, record);
     }
-    if stage != 3 {
-        return tally_of(2, p);
+    if stage != Stage::Done {
+        return Err(Refusal::Letter);
     }
-    tally_of(0, p)
+    Ok(p)
 }

@@ -9,24 +9,18 @@ ghost use Rattle.model_read.specs.Steps.{short as short_of, found_at};
 
 use filling::fill_all;
 use judging::{judge_all, leading_nodes};
-use model_file::{Found, ReadAnswer};
+use model_file::Found;
+use refusals::Refusal;
 
-mod judging; // one pass over the records: the first refusal, or what the file holds
+mod judging; // one pass over the records: the first refusal, or how much the file holds
 mod filling; // one more pass, which fills the lists
 
 // How far the lists are filled.
 #[derive(Clone, Copy)]
-pub struct Place {
-    pub coords: usize,
-    pub cells: usize,
-    pub words: usize,
-}
-
-// What the judging pass finds: a refusal, or 0 and what the file holds.
-#[derive(Clone, Copy)]
-pub struct Tally {
-    pub refusal: u8,
-    pub place: Place,
+struct Place {
+    coords: usize,
+    cells: usize,
+    words: usize,
 }
 
 // Bytes 2 and 3.
@@ -80,24 +74,17 @@ pub fn read(
     kinds: &mut [u8],
     ends: &mut [u32],
     words: &mut [u32],
-) -> ReadAnswer
+) -> Result<Found, Refusal>
     ensures { Reading bytes.now coords.old coords.new kinds.old kinds.new ends.old ends.new words.old words.new result }
 {
-    let n = bytes.len();
-    if length_off(n) {
-        return ReadAnswer::Refused(1);
+    if length_off(bytes.len()) {
+        return Err(Refusal::FileLength);
     }
     let nodes = leading_nodes(bytes);
-    let t = judge_all(bytes, nodes);
-    let no = t.refusal;
-    if no != 0 {
-        return ReadAnswer::Refused(no);
-    }
-    let p = t.place;
+    let p = judge_all(bytes, nodes)?;
     if room_off(p, coords.len(), kinds.len(), ends.len(), words.len()) {
-        return ReadAnswer::Refused(4);
+        return Err(Refusal::Room);
     }
     fill_all(bytes, coords, kinds, ends, words, nodes);
-    let last = n - 32;
-    ReadAnswer::Read(found_in(&bytes[last..n], p))
+    Ok(found_in(&bytes[bytes.len() - 32..], p))
 }

@@ -1,68 +1,47 @@
-use Prim.Native.Nat.{ℕ, ◌<◌}
-use mathlib.Core.List.{List}
-use mathlib.Core.Path.{subst, sym}
+use Prim.Native.Nat.{◌*◌, ◌<◌}
+use mathlib.Core.Path.{sym, ap, ◌∙◌, subst}
 use native.Mathlib.Omega.{arith}
 use lib.ListN.{length}
-use Rattle.model_read.specs.Steps.{Room, Put}
-use Rattle.model_read.proofs.FillPass.{nodes_room, filling_start, filling_room, filling_step, filling_end}
-use Rattle.model_read.proofs.JudgePass.{part32}
+use Rattle.std.specs.Slice.Iter.{chunks_exact_rest}
+use Rattle.model_read.proofs.JudgePass.{rest_lent}
+use Rattle.model_read.proofs.FillPass.{Filling, nodes_room, filling_start, filling_room, filling_step, filling_end}
 use Rattle.model_read.proofs.filling.fill_all.Goals as goal
 
 pub fill_nodes-requires : goal.fill_nodes-requires
 fill_nodes-requires c =
-    let a = c.args in (
-      c.requires.1.inside,
-      nodes_room a.bytes.now a.nodes (length a.coords.now) (length a.kinds.now) (length a.ends.now) (length a.words.now) c.requires.0 c.requires.1,
-    )
-
-pub overflow_mul-p : goal.overflow_mul-p
-overflow_mul-p c = omega (arith, c.requires.1.inside)
-
-pub overflow_mul-at : goal.overflow_mul-at
-overflow_mul-at c = omega (arith, c.requires.1.inside)
-
-pub loop-at-init : goal.loop-at-init
-loop-at-init c =
     let a = c.args in
-    let e = c.fill_nodes in
-    filling_start a.bytes.now a.nodes a.coords.now e.new.coords a.kinds.now a.ends.now a.words.now c.requires.0 c.requires.1 e.ensures
+    (c.requires.1.inside, nodes_room a.bytes.now a.nodes _ _ _ _ c.requires.0 c.requires.1)
+
+pub loop-record-init : goal.loop-record-init
+loop-record-init c =
+    let a = c.args in
+    let k = c.chunks_exact-record-items.ensures in
+    let e = c.into_iter-record-iterator.ensures.into_iter_gives in (
+      omega (arith, k.size, ap (λ r. r.size) e),
+      subst (Filling a.bytes.now a.kinds.now a.ends.now a.words.now a.kinds.now a.ends.now a.words.now _) (sym (ap chunks_exact_rest e ∙ k.rest ∙ rest_lent a.bytes.now (32 * a.nodes))) (filling_start a.bytes.now a.nodes a.kinds.now a.ends.now a.words.now c.requires.1),
+    )
 
 pub fill_record-p-requires : goal.fill_record-p-requires
 fill_record-p-requires c =
-    let o = c.loop-at in
-    let g = c.fill_nodes in
     let a = c.args in
-    let lt : o.at < length a.bytes.now = c.loop-at-test.true in
-    subst (λ (r : List ℕ). Room r o.p (length o.kinds) (length o.ends) (length o.words)) (sym (part32 a.bytes.now o.at)) (filling_room a.bytes.now a.nodes a.coords.now g.new.coords a.kinds.now a.ends.now a.words.now c.requires.0 c.requires.1 g.ensures o.kinds o.ends o.words o.p o.at o.invariant lt)
+    let o = c.loop-record in
+    let n = c.in-Some.ensures.steps.1 in
+    filling_room a.bytes.now _ a.kinds.now a.ends.now a.words.now c.requires.0 o.kinds o.ends o.words o.p _ c.in-Some.record.now _ o.invariant.1 n.0 (n.1 ∙ o.invariant.0)
 
-pub loop-at-smaller : goal.loop-at-smaller
-loop-at-smaller c = omega (arith, c.loop-at-test.true)
-
-pub loop-at-preserved : goal.loop-at-preserved
-loop-at-preserved c =
-    let o = c.loop-at in
-    let g = c.fill_nodes in
+pub loop-record-preserved : goal.loop-record-preserved
+loop-record-preserved c =
     let a = c.args in
-    let lt : o.at < length a.bytes.now = c.loop-at-test.true in
-    let e = c.fill_record-p in
-    filling_step a.bytes.now a.nodes a.coords.now g.new.coords a.kinds.now a.ends.now a.words.now c.requires.0 c.requires.1 g.ensures o.kinds o.ends o.words o.p o.at o.invariant lt e.new.kinds e.new.ends e.new.words e.result
-    (subst (λ (r : List ℕ). Put r o.p e.result o.kinds e.new.kinds o.ends e.new.ends o.words e.new.words) (part32 a.bytes.now o.at) e.ensures)
-
-pub shape_of-coords : goal.shape_of-coords
-shape_of-coords c = c.fill_nodes.auto.coords
-
-pub shape_of-kinds : goal.shape_of-kinds
-shape_of-kinds c = c.loop-at.invariant.kinds_long
-
-pub shape_of-ends : goal.shape_of-ends
-shape_of-ends c = c.loop-at.invariant.ends_long
-
-pub shape_of-words : goal.shape_of-words
-shape_of-words c = c.loop-at.invariant.words_long
+    let o = c.loop-record in
+    let n = c.in-Some.ensures.steps.1 in
+    let e = c.fill_record-p in (
+      c.in-Some.ensures.steps.0 ∙ o.invariant.0,
+      filling_step a.bytes.now _ a.kinds.now a.ends.now a.words.now c.requires.0 o.kinds o.ends o.words o.p _ c.in-Some.record.now _ o.invariant.1 n.0 (n.1 ∙ o.invariant.0) e.new.kinds e.new.ends e.new.words e.result e.ensures,
+    )
 
 pub returns : goal.returns
 returns c =
-    let o = c.loop-at in
-    let g = c.fill_nodes in
     let a = c.args in
-    filling_end a.bytes.now a.nodes a.coords.now g.new.coords a.kinds.now a.ends.now a.words.now c.requires.0 c.requires.1 g.ensures o.kinds o.ends o.words o.p o.at o.invariant c.loop-at-test.false
+    let o = c.loop-record in
+    let g = c.fill_nodes in
+    let end : length (chunks_exact_rest o.record-iterator) < 32 = omega (arith, c.in-None.ensures.steps.1.0, o.invariant.0) in
+    filling_end a.bytes.now a.nodes a.coords.now g.new.coords a.kinds.now a.ends.now a.words.now o.kinds o.ends o.words o.p _ c.requires.0.judged_well c.requires.1 g.ensures o.invariant.1 end

@@ -1,10 +1,7 @@
-use Prim.Native.Nat.{◌-◌}
-use lib.ListN.{length}
+use mathlib.Core.Path.{◌≡◌}
+use Rattle.std.specs.Slice.Iter.{chunks_exact_rest, chunks_exact_size}
 use Rattle.model_read.proofs.FillPass.{Filling}
 use Rattle.model_read.proofs.filling.fill_all.Given as goal
 
-abbrev pub invariant-loop-at : goal.invariant-loop-at
-invariant-loop-at l = Filling l.bytes l.initial.kinds l.initial.ends l.initial.words l.kinds l.ends l.words l.p l.at
-
-abbrev pub decreases-loop-at : goal.decreases-loop-at
-decreases-loop-at l = length l.bytes - l.at
+abbrev pub invariant-loop-record : goal.invariant-loop-record
+invariant-loop-record l = (chunks_exact_size l.record-iterator ≡ 32) × Filling l.bytes l.initial.kinds l.initial.ends l.initial.words l.kinds l.ends l.words l.p (chunks_exact_rest l.record-iterator)

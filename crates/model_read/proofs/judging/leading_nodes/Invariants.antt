@@ -1,4 +1,4 @@
-use Prim.Native.Nat.{◌+◌, ◌*◌, ◌-◌, ◌≤◌}
+use Prim.Native.Nat.{◌+◌, ◌*◌}
 use mathlib.Core.Path.{◌≡◌}
 use lib.ListN.{drop}
 use Rattle.model_file.specs.File.{records}
@@ -6,7 +6,4 @@ use Rattle.model_read.specs.Steps.{leading}
 use Rattle.model_read.proofs.judging.leading_nodes.Given as goal
 
 abbrev pub invariant-loop-n : goal.invariant-loop-n
-invariant-loop-n l = (l.n ≤ l.most) × (l.n + leading (records (drop (32 * l.n) l.bytes)) ≡ leading (records l.bytes))
-
-abbrev pub decreases-loop-n : goal.decreases-loop-n
-decreases-loop-n l = l.most - l.n
+invariant-loop-n l = l.n + leading (records (drop (32 * l.n) l.bytes)) ≡ leading (records l.bytes)

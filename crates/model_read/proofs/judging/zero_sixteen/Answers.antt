@@ -7,15 +7,6 @@ use Rattle.laws.specs.Bytes.{zeros}
 use Rattle.model_read.proofs.ZeroBytes.{zeros_cover}
 use Rattle.model_read.proofs.judging.zero_sixteen.Goals as goal
 
-pub zero_eight-requires : goal.zero_eight-requires
-zero_eight-requires c = omega (arith, c)
-
-pub overflow_add-at : goal.overflow_add-at
-overflow_add-at c = omega (arith, c)
-
-pub zero_eight-requires-2 : goal.zero_eight-requires-2
-zero_eight-requires-2 c = omega (arith, c)
-
 pub returns : goal.returns
 returns c =
     let a = c.args in
