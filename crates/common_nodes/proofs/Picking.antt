@@ -1,9 +1,12 @@
 -- Common nodes, one by one, and that they are nodes.
-use Prim.Native.Nat.{ℕ, suc, ◌+◌, ◌-◌, ◌≤◌, ◌<◌}
+use Prim.Native.Nat.{ℕ, suc, ◌+◌, ◌≤◌, ◌<◌}
 use mathlib.Core.Path.{◌≡◌, refl, sym, ap, ap₂, ◌∙◌, subst}
-use mathlib.Core.Bool.{Bool, true, false}
+use mathlib.Core.Bool.{Bool, true, false, ◌||◌}
 use mathlib.Core.List.{List, [], ◌∷◌, ◌++◌, append-nil}
 use native.Mathlib.Omega.{arith}
+use lib.Dec.{eqb}
+use Rattle.std.specs.List.{list_any}
+use Rattle.laws.proofs.Tests.{eqb_comm}
 use lib.ListN.{length, get_or, take, drop, set, length-append}
 use lib.Seq.{sets, take-suc, take_all, take-append_seam}
 use lib.Ieee.{Float}
@@ -14,6 +17,11 @@ use Rattle.laws.proofs.Stores.{sets_snoc, sets_front}
 use Rattle.geometry.specs.Steps.{InNodes}
 use Rattle.geometry.specs.Coordinates.{node_count}
 use Rattle.seek.specs.Candidates.{common}
+
+-- the library's test of a member
+pub member : (v : ℕ) (l : List ℕ) → elem v l ≡ list_any (λ y. eqb y v) l
+member v [] = refl
+member v (x ∷ l) = ap₂ (λ (a b : Bool). a || b) (eqb_comm v x) (member v l)
 
 -- what one more node adds
 grown : (A B : List ℕ) (i : ℕ) → i < length A → common (take (i + 1) A) B ≡ common (take i A) B ++ only_if (elem (get_or A i 0) B) (get_or A i 0 ∷ [])
@@ -62,6 +70,10 @@ module _ (A B own₀ own : List ℕ) (n i v : ℕ) (p : Picked A B own₀ own n 
         within = omega (arith, h);
       }
 
+-- the same list and number under other names
+pub picked_as : {A B own₀ own own' : List ℕ} {n n' i : ℕ} → own' ≡ own → n' ≡ n → Picked A B own₀ own n i → Picked A B own₀ own' n' i
+picked_as d e p = record { count = e ∙ p.count; put = d ∙ p.put; few = omega (arith, e, p.few); within = p.within }
+
 -- all are picked
 pub picked_all : (A B own₀ own : List ℕ) (n i : ℕ) → Picked A B own₀ own n i → length A ≤ i → (n ≡ length (common A B)) × (own ≡ sets own₀ 0 (common A B))
 picked_all A B own₀ own n i p h =
@@ -78,11 +90,10 @@ unfolding common
 common_few A B = keep-length (λ k. elem k B) A
 
 -- the part of a local list that was filled
-pub front : (own own₀ X : List ℕ) (n : ℕ) → own ≡ sets own₀ 0 X → n ≡ length X → length own₀ ≡ 64 → length X ≤ 64 → take (n - 0) own ≡ X
+pub front : (own own₀ X : List ℕ) (n : ℕ) → own ≡ sets own₀ 0 X → n ≡ length X → length own₀ ≡ 64 → length X ≤ 64 → take n own ≡ X
 front own own₀ X n e k l h =
-    let z : n - 0 ≡ length X = omega (arith, k) in
-    ap₂ (λ (i : ℕ) (w : List ℕ). take i w) z (e ∙ sets_front own₀ X (omega (arith, l, h))) ∙ take-append_seam X (drop (length X) own₀)
+    ap₂ (λ (i : ℕ) (w : List ℕ). take i w) k (e ∙ sets_front own₀ X (omega (arith, l, h))) ∙ take-append_seam X (drop (length X) own₀)
 
 -- its nodes are nodes
-pub front_in : (c : List Float) (own own₀ X : List ℕ) (n : ℕ) → own ≡ sets own₀ 0 X → n ≡ length X → length own₀ ≡ 64 → length X ≤ 64 → InNodes c X → InNodes c (take (n - 0) own)
+pub front_in : (c : List Float) (own own₀ X : List ℕ) (n : ℕ) → own ≡ sets own₀ 0 X → n ≡ length X → length own₀ ≡ 64 → length X ≤ 64 → InNodes c X → InNodes c (take n own)
 front_in c own own₀ X n e k l h p = subst (InNodes c) (sym (front own own₀ X n e k l h)) p

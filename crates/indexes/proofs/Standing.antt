@@ -12,7 +12,7 @@ use Rattle.counting.proofs.CountLaws.{below_suc}
 use Rattle.index.specs.declared.Places.{Places}
 use Rattle.index.specs.Faces.{input, base, words_of, faces_with, offsets_of, index_of, Laid, Indexed}
 use Rattle.index.proofs.Built.{built, below_found, index_before}
-use Rattle.seek.proofs.Read.{below_words}
+use Rattle.index.proofs.Read.{below_words}
 use Rattle.pairs.specs.Tables.{with_index}
 use Rattle.pairs.specs.Work.{Few}
 use Rattle.layout.specs.declared.Layout.{Layout}

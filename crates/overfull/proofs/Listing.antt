@@ -12,7 +12,7 @@ use Rattle.counting.proofs.CountLaws.{below_suc}
 use Rattle.index.specs.declared.Places.{Places}
 use Rattle.index.specs.Faces.{input, base, nodes_of, words_of}
 use Rattle.merge.specs.Runs.{rest}
-use Rattle.seek.proofs.Read.{below_words}
+use Rattle.index.proofs.Read.{below_words}
 use Rattle.seek.proofs.Searching.{input_base}
 use Rattle.triple_keys.specs.Keys.{Keyed}
 use Rattle.triples.specs.Hits.{Beside}

@@ -5,7 +5,8 @@ ghost use Rattle.std.specs.Prelude.{◌≡◌, true, ◌+◌, ◌*◌, ◌^◌, 
 ghost use Rattle.laws.specs.Lists.{keep, elem};
 ghost use Rattle.geometry.specs.Points.{points_of, centre_of};
 ghost use Rattle.geometry.specs.Coordinates.{node_count};
-ghost use Rattle.index.specs.Faces.{input, base, nodes_of, Indexed};
+ghost use Rattle.index.specs.Faces.{input, base};
+ghost use Rattle.index.specs.Read.{set_of};
 ghost use Rattle.merge.specs.Runs.{rest};
 ghost use Rattle.triple_keys.specs.Keys.{Keyed};
 ghost use Rattle.layout.specs.Tables.{key_row, Faced, Standing};
@@ -35,25 +36,18 @@ fn same_key(work: &[u32], l: layout::Layout, g: usize, h: usize) -> bool
 }
 
 // Of the keys of face g in an index, one that the fewest faces have.
-fn rarest(base: &[u32], at: index::Places, g: usize) -> usize
-    requires indexed { Indexed at base.now }
-    requires g_lt_faces { (g < at.faces) × (0 < length (nodes_of at (input at base.now) g)) }
-    ensures { elem result (nodes_of at (input at base.now) g) ≡ true }
+fn rarest(ix: &index::Index, g: usize) -> usize
+    requires { (g < ix.now.at.faces) × (0 < length (set_of ix.now g)) }
+    ensures { elem result (set_of ix.now g) ≡ true }
 {
-    let s = seek::set_start(base, at, g);
-    let k = seek::set_size(base, at, g);
-    let mut v = counting::wide(base[s]);
-    let mut least = triples::list_length(base, at, v);
-    let mut i = 1;
-    while i < k {
-        let u = counting::wide(base[s + i]);
-        let m = triples::list_length(base, at, u);
+    let keys = ix.set(g);
+    let mut v = keys[0] as usize;
+    let mut least = ix.list_length(v);
+    for &u in &keys[1..] {
+        let m = ix.list_length(u as usize);
         if m < least {
-            v = u;
+            v = u as usize;
             least = m;
-            i += 1;
-        } else {
-            i += 1;
         }
     }
     v
@@ -114,10 +108,14 @@ fn count_alike(work: &[u32], l: layout::Layout, by: index::Places, g: usize) -> 
 {
     let at = l.at;
     let found = at.found;
-    let v = rarest(&work[..found], by, g);
+    let keys = index::Index {
+        base: &work[..found],
+        at: by,
+    };
+    let v = rarest(&keys, g);
     let slot = by.offsets + v;
-    let x = by.index + counting::wide(work[slot]);
-    let e = by.index + counting::wide(work[slot + 1]);
+    let x = by.index + work[slot] as usize;
+    let e = by.index + work[slot + 1] as usize;
     walk(work, l, g, x, e)
 }
 

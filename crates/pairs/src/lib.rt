@@ -3,7 +3,8 @@
 
 ghost use Rattle.std.specs.Prelude.{◌≡◌, ◌*◌, ◌≤◌, ◌^◌, length};
 ghost use Rattle.laws.specs.Lists.{pairs_of, triples_of};
-ghost use Rattle.index.specs.Faces.{input, base, Laid, Room, Indexed};
+ghost use Rattle.index.specs.Faces.{input, base, Laid, Room};
+ghost use Rattle.index.specs.Read.{input_of};
 ghost use Rattle.seek.specs.Candidates.{Ready, SoughtBy};
 ghost use Rattle.seek.specs.Steps.{Hidden};
 ghost use Rattle.triple_keys.specs.Keys.{Keyed};
@@ -15,10 +16,7 @@ fn pairs_of(n: usize) -> usize
     requires { n ≤ 2 ^ 20 }
     ensures { (result ≡ pairs_of n) × (result ≤ n * 2 ^ 20) }
 {
-    if n == 0 {
-        return 0;
-    }
-    n * (n - 1) / 2
+    n * n.saturating_sub(1) / 2
 }
 
 // Triples of n things.
@@ -26,53 +24,39 @@ fn triples_of(n: usize) -> usize
     requires { n ≤ 64 }
     ensures { (result ≡ triples_of n) × (result ≤ 2 ^ 18) }
 {
-    if n < 2 {
-        return 0;
-    }
-    n * (n - 1) * (n - 2) / 6
+    n * n.saturating_sub(1) * n.saturating_sub(2) / 6
 }
 
 // For each node the pairs of faces that have it, added up.
-pub fn node_work(base: &[u32], at: index::Places) -> usize
-    requires indexed { Indexed at base.now }
-    requires few { Few at }
-    ensures { result ≡ node_work at (input at base.now) }
+pub fn node_work(ix: &index::Index) -> usize
+    requires { Few ix.now.at }
+    ensures { result ≡ node_work ix.now.at (input_of ix.now) }
 {
-    let nodes = at.nodes;
     let mut total = 0;
-    let mut n = 0;
-    while n < nodes {
-        total += pairs_of(triples::list_length(base, at, n));
-        n += 1;
+    for n in 0..ix.at.nodes {
+        total += pairs_of(ix.list_length(n));
     }
     total
 }
 
 // For each face the triples of its nodes, added up.
-pub fn triple_work(base: &[u32], at: index::Places) -> usize
-    requires indexed { Indexed at base.now }
-    requires few { Few at }
-    ensures { (result ≡ triple_work at (input at base.now)) × (result ≤ 2 ^ 36) }
+pub fn triple_work(ix: &index::Index) -> usize
+    requires { Few ix.now.at }
+    ensures { (result ≡ triple_work ix.now.at (input_of ix.now)) × (result ≤ 2 ^ 36) }
 {
-    let faces = at.faces;
     let mut total = 0;
-    let mut g = 0;
-    while g < faces {
-        total += triples_of(seek::set_size(base, at, g));
-        g += 1;
+    for g in 0..ix.at.faces {
+        total += triples_of(ix.set_size(g));
     }
     total
 }
 
 // The search by common nodes is taken where it is at most four times the work of that by triples.
-pub fn by_nodes(base: &[u32], at: index::Places) -> bool
-    requires indexed { Indexed at base.now }
-    requires few { Few at }
-    ensures { result ≡ is_by_nodes at (input at base.now) }
+pub fn by_nodes(ix: &index::Index) -> bool
+    requires { Few ix.now.at }
+    ensures { result ≡ is_by_nodes ix.now.at (input_of ix.now) }
 {
-    let a = node_work(base, at);
-    let b = triple_work(base, at);
-    a <= 4 * b
+    node_work(ix) <= 4 * triple_work(ix)
 }
 
 // Builds the index, once for all faces, and answers which way is taken.
@@ -86,7 +70,11 @@ pub fn prepare(work: &mut [u32], at: index::Places) -> bool
 {
     let found = at.found;
     index::build_index(work, at);
-    by_nodes(&work[..found], at)
+    let ix = index::Index {
+        base: &work[..found],
+        at: at,
+    };
+    by_nodes(&ix)
 }
 
 // The candidates of face lo, of which none is before `end`, sought the way that is asked for, as the answer tells; `by` is the second

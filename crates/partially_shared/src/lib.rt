@@ -60,18 +60,20 @@ fn keep_pair(
 {
     let at = l.at;
     let found = at.found;
-    let m = l.marks + b;
-    let o = l.others + b;
-    let f = counting::wide(work[m]) - 1;
-    let g = counting::wide(work[o]);
-    let s = common_nodes::shared_of(coords, &work[..found], at, f, g);
+    let f = work[l.marks + b] as usize - 1;
+    let g = work[l.others + b] as usize;
+    let ix = index::Index {
+        base: &work[..found],
+        at: at,
+    };
+    let s = common_nodes::shared_of(coords, &ix, f, g);
     let r = records::Record {
         kind: 3,
-        first: counting::narrow(c),
-        second: counting::narrow(b),
-        a: counting::narrow(f),
-        b: counting::narrow(g),
-        count: counting::narrow(s.count),
+        first: c as u32,
+        second: b as u32,
+        a: f as u32,
+        b: g as u32,
+        count: s.count as u32,
     };
     records::keep_record(findings, room, n, r, s.centre)
 }

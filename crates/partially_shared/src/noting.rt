@@ -95,7 +95,11 @@ fn note(
     if work[m] != 0 {
         return r;
     }
-    if !common_nodes::spans(coords, tol, &work[..found], at, f, g) {
+    let ix = index::Index {
+        base: &work[..found],
+        at: at,
+    };
+    if !common_nodes::spans(coords, tol, &ix, f, g) {
         return r;
     }
     mark(work, l, b, f, g);

@@ -25,7 +25,7 @@ use Rattle.merge.specs.Runs.{rest, stands, next, Lowest}
 use Rattle.seek.specs.Candidates.{common, shares}
 use Rattle.seek.specs.Steps.{Runs, early}
 use Rattle.seek.proofs.Condition.{shares_early}
-use Rattle.seek.proofs.Read.{below_words, node_low}
+use Rattle.index.proofs.Read.{below_words, node_low}
 
 -- ---- lists
 

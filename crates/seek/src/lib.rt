@@ -5,7 +5,8 @@ ghost use Rattle.std.specs.Prelude.{◌≡◌, [], ◌∷◌, map, ◌+◌, ◌�
 ghost use Rattle.std.proofs.lemmas.List.Edits.{sets};
 ghost use Rattle.laws.specs.Lists.{only_if, keep, eql};
 ghost use Rattle.counting.specs.Counts.{below};
-ghost use Rattle.index.specs.Faces.{input, base, cell_of, bow_of, start_of, nodes_of, words_of, Indexed};
+ghost use Rattle.index.specs.Faces.{input, base, words_of};
+ghost use Rattle.index.specs.Read.{input_of, set_of};
 ghost use Rattle.merge.specs.Runs.{rest, Ends};
 ghost use Rattle.seek.specs.Candidates.{common, shares, Ready, Sought, found_in, went_by_nodes, SoughtBy, TalliedMore};
 ghost use Rattle.seek.specs.Steps.{Runs, Hidden, Rising, AllRising, Passed, Begun, one, apart};
@@ -63,106 +64,59 @@ impl Searched {
     }
 }
 
-// Where the node set of face g starts, and how many nodes it has.
-pub fn set_start(base: &[u32], at: index::Places, g: usize) -> usize
-    requires indexed { Indexed at base.now }
-    requires g_lt_faces { g < at.faces }
-    ensures { result ≡ at.sets + start_of at (input at base.now) g }
-{
-    let k = at.starts + g;
-    at.sets + counting::wide(base[k])
-}
-
-pub fn set_size(base: &[u32], at: index::Places, g: usize) -> usize
-    requires indexed { Indexed at base.now }
-    requires g_lt_faces { g < at.faces }
-    ensures { result ≡ length (nodes_of at (input at base.now) g) }
-{
-    let k = at.starts + g;
-    let a = counting::wide(base[k]);
-    counting::wide(base[k + 1]) - a
-}
-
 // Opens a run for each node of face lo: its list in the index. Answers how many.
-fn open_runs(
-    base: &[u32],
-    at: index::Places,
-    lo: usize,
-    from: &mut [usize; 64],
-    to: &mut [usize; 64],
-) -> usize
-    requires indexed { Indexed at base.now }
-    requires lo_lt_faces { lo < at.faces }
-    ensures value { result ≡ length (nodes_of at (input at base.now) lo) }
-    ensures from_after { from.new ≡ sets from.old 0 (map (λ n. at.index + below n (words_of at (input at base.now))) (nodes_of at (input at base.now) lo)) }
-    ensures to_after { to.new ≡ sets to.old 0 (map (λ n. at.index + below (n + 1) (words_of at (input at base.now))) (nodes_of at (input at base.now) lo)) }
+fn open_runs(ix: &index::Index, lo: usize, from: &mut [usize; 64], to: &mut [usize; 64]) -> usize
+    requires { lo < ix.now.at.faces }
+    ensures value { result ≡ length (set_of ix.now lo) }
+    ensures from_after { from.new ≡ sets from.old 0 (map (λ n. ix.now.at.index + below n (words_of ix.now.at (input_of ix.now))) (set_of ix.now lo)) }
+    ensures to_after { to.new ≡ sets to.old 0 (map (λ n. ix.now.at.index + below (n + 1) (words_of ix.now.at (input_of ix.now))) (set_of ix.now lo)) }
 {
-    let s = set_start(base, at, lo);
-    let k = set_size(base, at, lo);
-    let o = at.offsets;
-    let x = at.index;
-    merge::places(base, s, k, o, x, from);
-    merge::places(base, s, k, o + 1, x, to);
+    let s = ix.set_start(lo);
+    let k = ix.set_size(lo);
+    merge::places(ix.base, s, k, ix.at.offsets, ix.at.index, from);
+    merge::places(ix.base, s, k, ix.at.offsets + 1, ix.at.index, to);
     k
 }
 
-// The cell of face g is a bow-tie.
-pub fn bow_at(base: &[u32], at: index::Places, g: usize) -> bool
-    requires indexed { Indexed at base.now }
-    requires g_lt_faces { g < at.faces }
-    ensures { result ≡ bow_of at (input at base.now) (cell_of at (input at base.now) g) }
-{
-    let k = at.cells + g;
-    let b = at.bows + counting::wide(base[k]);
-    base[b] != 0
-}
-
 // The test that is cheap: a later face of another cell, and neither cell is a bow-tie.
-pub fn is_apart(base: &[u32], at: index::Places, lo: usize, g: usize) -> bool
-    requires indexed { Indexed at base.now }
-    requires lo_lt_faces { (lo < at.faces) × (g < at.faces) }
-    ensures { result ≡ apart at (input at base.now) lo g }
+pub fn is_apart(ix: &index::Index, lo: usize, g: usize) -> bool
+    requires { (lo < ix.now.at.faces) × (g < ix.now.at.faces) }
+    ensures { result ≡ apart ix.now.at (input_of ix.now) lo g }
 {
     if g <= lo {
         return false;
     }
-    let cells = at.cells;
-    if base[cells + lo] == base[cells + g] {
+    let cells = ix.at.cells;
+    if ix.base[cells + lo] == ix.base[cells + g] {
         return false;
     }
-    if bow_at(base, at, lo) {
+    if ix.bow_at(lo) {
         return false;
     }
-    !bow_at(base, at, g)
+    !ix.bow_at(g)
 }
 
 // The node sets of two faces are equal.
-pub fn same_set(base: &[u32], at: index::Places, lo: usize, g: usize) -> bool
-    requires indexed { Indexed at base.now }
-    requires lo_lt_faces { (lo < at.faces) × (g < at.faces) }
-    ensures { result ≡ eql (nodes_of at (input at base.now) lo) (nodes_of at (input at base.now) g) }
+pub fn same_set(ix: &index::Index, lo: usize, g: usize) -> bool
+    requires { (lo < ix.now.at.faces) × (g < ix.now.at.faces) }
+    ensures { result ≡ eql (set_of ix.now lo) (set_of ix.now g) }
 {
-    let s = set_start(base, at, lo);
-    let j = set_size(base, at, lo);
-    let t = set_start(base, at, g);
-    let k = set_size(base, at, g);
-    ascending::equal(base, s, j, t, k)
+    ix.set(lo) == ix.set(g)
 }
 
 // Face g, which has c nodes in common with lo, is a candidate.
-fn is_candidate(base: &[u32], at: index::Places, lo: usize, g: usize, c: usize) -> bool
-    requires indexed { Indexed at base.now }
-    requires lo_lt_faces { (lo < at.faces) × (g < at.faces) }
-    requires c_value { c ≡ length (common (nodes_of at (input at base.now) lo) (nodes_of at (input at base.now) g)) }
-    ensures { result ≡ shares at (input at base.now) lo g }
+fn is_candidate(ix: &index::Index, lo: usize, g: usize, c: usize) -> bool
+    requires lo_lt_faces { (lo < ix.now.at.faces) × (g < ix.now.at.faces) }
+    requires c_value { c ≡ length (common (set_of ix.now lo) (set_of ix.now g)) }
+    ensures { result ≡ shares ix.now.at (input_of ix.now) lo g }
 {
     if c < 3 {
         return false;
     }
-    if !is_apart(base, at, lo, g) {
+    if !is_apart(ix, lo, g) {
         return false;
     }
-    !same_set(base, at, lo, g)
+    !same_set(ix, lo, g)
 }
 
 // Notes g behind n others where it is wanted; answers how many there are then.
@@ -172,7 +126,7 @@ fn note(work: &mut [u32], found: usize, n: usize, wanted: bool, g: usize) -> usi
     ensures work_after { work.new ≡ sets work.old (found + n) (only_if wanted (g ∷ [])) }
 {
     if wanted {
-        work[found + n] = counting::narrow(g);
+        work[found + n] = g as u32;
         return n + 1;
     }
     n
@@ -197,8 +151,12 @@ fn take_face(
     ensures runs_2 { Runs at (base at work.old) lo k (g + 1) from.new to.now }
 {
     let found = at.found;
-    let c = merge::pass(&work[..found], k, from, to, g);
-    let wanted = is_candidate(&work[..found], at, lo, g, c);
+    let ix = index::Index {
+        base: &work[..found],
+        at: at,
+    };
+    let c = merge::pass(ix.base, k, from, to, g);
+    let wanted = is_candidate(&ix, lo, g, c);
     note(work, found, n, wanted, g)
 }
 
@@ -230,14 +188,12 @@ fn skip_run(base: &[u32], x: usize, e: usize, end: usize) -> usize
     requires { (e ≤ length base.now) × Rising x e base.now }
     ensures { rest result e base.now ≡ keep (leb end) (rest x e base.now) }
 {
-    let mut i = x;
-    while i < e {
-        if end <= counting::wide(base[i]) {
+    for i in x..e {
+        if end <= base[i] as usize {
             return i;
         }
-        i += 1;
     }
-    i
+    e
 }
 
 // Each of k ascending runs goes on to its first number that is not below `end`.
@@ -246,10 +202,8 @@ fn skip_runs(base: &[u32], k: usize, from: &mut [usize; 64], to: &[usize; 64], e
     requires from_len { (length from.old ≡ 64) × AllRising k base.now from.old to.now }
     ensures { Passed k end base.now from.old from.new to.now }
 {
-    let mut i = 0;
-    while i < k {
+    for i in 0..k {
         from[i] = skip_run(base, from[i], to[i], end);
-        i += 1;
     }
 }
 
@@ -261,13 +215,17 @@ pub fn seek_by_nodes(work: &mut [u32], at: index::Places, lo: usize, end: usize)
     ensures { SoughtBy true at lo work.old work.new result }
 {
     let found = at.found;
-    if bow_at(&work[..found], at, lo) {
+    let ix = index::Index {
+        base: &work[..found],
+        at: at,
+    };
+    if ix.bow_at(lo) {
         return Searched::ByNodes(0);
     }
     let mut from = [0usize; 64];
     let mut to = [0usize; 64];
-    let k = open_runs(&work[..found], at, lo, &mut from, &mut to);
-    skip_runs(&work[..found], k, &mut from, &to, end);
+    let k = open_runs(&ix, lo, &mut from, &mut to);
+    skip_runs(ix.base, k, &mut from, &to, end);
     let n = merge_runs(work, at, lo, k, &mut from, &to);
     Searched::ByNodes(n)
 }

@@ -17,7 +17,7 @@ use Rattle.index.specs.Faces.{input, base, start_of, nodes_of, Indexed}
 use Rattle.merge.specs.Runs.{rest}
 use Rattle.seek.specs.Candidates.{common, shares, candidates, Ready, Sought}
 use Rattle.seek.proofs.Searching.{input_base}
-use Rattle.seek.proofs.Read.{set-fits, set_there, read_node, node_low}
+use Rattle.index.proofs.Read.{set-fits, set_there, read_node, node_low}
 use Rattle.triple_keys.specs.Keys.{keys_of, Keyed}
 use Rattle.triples.specs.Hits.{hits_by, add_all, Open, Added, Beside, Known, NodesAt, AddedRare}
 use Rattle.triples.proofs.ShareKey.{Short, share_key}

@@ -20,7 +20,7 @@ use Rattle.index.specs.Faces.{input, base, nodes_of, words_of, faces_with}
 use Rattle.merge.specs.Runs.{rest}
 use Rattle.ascending.proofs.Adding.{get_or_in}
 use Rattle.seek.specs.Candidates.{shares}
-use Rattle.seek.proofs.Read.{below_words}
+use Rattle.index.proofs.Read.{below_words}
 use Rattle.triples.specs.Hits.{hits_by, Beside}
 
 -- its slot, and the one behind it, lie below `found`, and so does the index

@@ -3,9 +3,9 @@
 
 ghost use Rattle.std.specs.Prelude.{◌≡◌, false, [], ◌∷◌, ℕ, ◌+◌, ◌≤◌, ◌<◌, leb, length, get_or};
 ghost use Rattle.laws.specs.Lists.{only_if, each, keep};
-ghost use Rattle.laws.specs.Merging.{region, Asc};
-ghost use Rattle.counting.specs.Counts.{times};
-ghost use Rattle.index.specs.Faces.{input, base, nodes_of, words_of, Indexed};
+ghost use Rattle.laws.specs.Merging.{Asc};
+ghost use Rattle.index.specs.Faces.{input, base};
+ghost use Rattle.index.specs.Read.{input_of};
 ghost use Rattle.merge.specs.Runs.{rest};
 ghost use Rattle.seek.specs.Candidates.{common, shares, Ready, Sought, SoughtBy};
 ghost use Rattle.triple_keys.specs.Keys.{Keyed};
@@ -20,25 +20,25 @@ pub struct Two {
     pub y: usize,
 }
 
-// Three or more of the k ascending words from s on stand among the j ascending ones from t on: both are gone through together.
-fn has_three(base: &[u32], s: usize, k: usize, t: usize, j: usize) -> bool
-    requires k_in_bounds { (s + k ≤ length base.now) × (t + j ≤ length base.now) }
-    requires asc { Asc (region s k base.now) × Asc (region t j base.now) }
-    ensures { result ≡ leb 3 (length (common (region s k base.now) (region t j base.now))) }
+// Three or more of the words of one ascending list stand in another: both are gone through together.
+fn has_three(a: &[u32], b: &[u32]) -> bool
+    requires { Asc a.now × Asc b.now }
+    ensures { result ≡ leb 3 (length (common a.now b.now)) }
 {
     let mut n: usize = 0;
     let mut i = 0;
     let mut m = 0;
-    while i < k {
-        if j <= m {
+    // no `for`: two places move, one at a time or both
+    while i < a.len() {
+        if b.len() <= m {
             return false;
         }
-        let a = base[s + i];
-        let b = base[t + m];
-        if a < b {
+        let x = a[i];
+        let y = b[m];
+        if x < y {
             i += 1;
         } else {
-            if b < a {
+            if y < x {
                 m += 1;
             } else {
                 if n == 2 {
@@ -53,42 +53,18 @@ fn has_three(base: &[u32], s: usize, k: usize, t: usize, j: usize) -> bool
     false
 }
 
-// Faces lo and g have three or more nodes in common.
-fn share_three(base: &[u32], at: index::Places, lo: usize, g: usize) -> bool
-    requires indexed { Indexed at base.now }
-    requires lo_lt_faces { (lo < at.faces) × (g < at.faces) }
-    ensures { result ≡ leb 3 (length (common (nodes_of at (input at base.now) lo) (nodes_of at (input at base.now) g))) }
-{
-    let s = seek::set_start(base, at, lo);
-    let k = seek::set_size(base, at, lo);
-    let t = seek::set_start(base, at, g);
-    let j = seek::set_size(base, at, g);
-    has_three(base, s, k, t, j)
-}
-
 // Face g is a candidate of lo: the cheap tests first, the common nodes last.
-fn is_hit(base: &[u32], at: index::Places, lo: usize, g: usize) -> bool
-    requires indexed { Indexed at base.now }
-    requires lo_lt_faces { (lo < at.faces) × (g < at.faces) }
-    ensures { result ≡ shares at (input at base.now) lo g }
+fn is_hit(ix: &index::Index, lo: usize, g: usize) -> bool
+    requires { (lo < ix.now.at.faces) × (g < ix.now.at.faces) }
+    ensures { result ≡ shares ix.now.at (input_of ix.now) lo g }
 {
-    if !seek::is_apart(base, at, lo, g) {
+    if !seek::is_apart(ix, lo, g) {
         return false;
     }
-    if seek::same_set(base, at, lo, g) {
+    if seek::same_set(ix, lo, g) {
         return false;
     }
-    share_three(base, at, lo, g)
-}
-
-// How many faces have key v.
-pub fn list_length(base: &[u32], at: index::Places, v: usize) -> usize
-    requires indexed { Indexed at base.now }
-    requires v_lt_nodes { v < at.nodes }
-    ensures { result ≡ times v (words_of at (input at base.now)) }
-{
-    let slot = at.offsets + v;
-    counting::wide(base[slot + 1]) - counting::wide(base[slot])
+    has_three(ix.set(lo), ix.set(g))
 }
 
 // Adds face g to the n candidates where it is one.
@@ -98,8 +74,12 @@ fn consider(work: &mut [u32], at: index::Places, lo: usize, n: usize, g: usize) 
     ensures { Added at (only_if (shares at (input at (base at work.old)) lo g) (g ∷ [])) n work.old result work.new }
 {
     let found = at.found;
-    if is_hit(&work[..found], at, lo, g) {
-        let v = counting::narrow(g);
+    let ix = index::Index {
+        base: &work[..found],
+        at: at,
+    };
+    if is_hit(&ix, lo, g) {
+        let v = g as u32;
         return ascending::insert(work, found, n, v);
     }
     n
@@ -112,11 +92,9 @@ fn walk(work: &mut [u32], at: index::Places, lo: usize, n: usize, x: usize, e: u
     ensures { Added at (keep (shares at (input at (base at work.old)) lo) (rest x e (base at work.old))) n work.old result work.new }
 {
     let mut n = n;
-    let mut i = x;
-    while i < e {
-        let g = counting::wide(work[i]);
+    for i in x..e {
+        let g = work[i] as usize;
         n = consider(work, at, lo, n, g);
-        i += 1;
     }
     n
 }
@@ -135,8 +113,8 @@ fn walk_key(
     ensures { Added at (hits_by at by (base at work.old) lo v) n work.old result work.new }
 {
     let slot = by.offsets + v;
-    let x = by.index + counting::wide(work[slot]);
-    let e = by.index + counting::wide(work[slot + 1]);
+    let x = by.index + work[slot] as usize;
+    let e = by.index + work[slot + 1] as usize;
     walk(work, at, lo, n, x, e)
 }
 
@@ -155,11 +133,9 @@ fn walk_keys(
     ensures { Added at (each (hits_by at by (base at work.old) lo) (rest s e (base at work.old))) n work.old result work.new }
 {
     let mut n = n;
-    let mut i = s;
-    while i < e {
-        let v = counting::wide(work[i]);
+    for i in s..e {
+        let v = work[i] as usize;
         n = walk_key(work, at, by, lo, n, v);
-        i += 1;
     }
     n
 }
@@ -192,21 +168,18 @@ fn longer(t: Two, k: usize, m: usize) -> Two
 }
 
 // Of the keys from s to e two that the most faces have.
-fn two_longest(base: &[u32], by: index::Places, s: usize, e: usize) -> Two
-    requires indexed { Indexed by base.now }
-    requires s_bound { (s + 2 ≤ e) × (e ≤ length base.now) × Known by base.now s e }
+fn two_longest(ix: &index::Index, s: usize, e: usize) -> Two
+    requires { (s + 2 ≤ e) × (e ≤ length ix.now.base.now) × Known ix.now.at ix.now.base.now s e }
     ensures { (s ≤ result.i) × (result.i < result.j) × (result.j < e) }
 {
     let mut t = Two {
         i: s,
         j: s + 1,
-        x: list_length(base, by, counting::wide(base[s])),
-        y: list_length(base, by, counting::wide(base[s + 1])),
+        x: ix.list_length(ix.base[s] as usize),
+        y: ix.list_length(ix.base[s + 1] as usize),
     };
-    let mut k = s + 2;
-    while k < e {
-        t = longer(t, k, list_length(base, by, counting::wide(base[k])));
-        k += 1;
+    for k in s + 2..e {
+        t = longer(t, k, ix.list_length(ix.base[k] as usize));
     }
     t
 }
@@ -226,7 +199,11 @@ fn walk_rare(
     ensures { AddedRare at by lo n s e work.old result work.new }
 {
     let found = at.found;
-    let t = two_longest(&work[..found], by, s, e);
+    let keys = index::Index {
+        base: &work[..found],
+        at: by,
+    };
+    let t = two_longest(&keys, s, e);
     let a = walk_keys(work, at, by, lo, n, s, t.i);
     let b = walk_keys(work, at, by, lo, a, t.i + 1, t.j);
     walk_keys(work, at, by, lo, b, t.j + 1, e)
@@ -246,8 +223,12 @@ fn seek_short(
     ensures { Sought at lo work.old work.new result }
 {
     let found = at.found;
-    let a = seek::set_start(&work[..found], by, lo);
-    let k = seek::set_size(&work[..found], by, lo);
+    let keys = index::Index {
+        base: &work[..found],
+        at: by,
+    };
+    let a = keys.set_start(lo);
+    let k = keys.set_size(lo);
     let n = walk_keys(work, at, by, lo, 0, a, a + k);
     walk_rare(work, at, by, lo, n, s, e)
 }
@@ -264,11 +245,15 @@ pub fn seek_by_triples(
     ensures { SoughtBy false at lo work.old work.new result }
 {
     let found = at.found;
-    if seek::bow_at(&work[..found], at, lo) {
+    let ix = index::Index {
+        base: &work[..found],
+        at: at,
+    };
+    if ix.bow_at(lo) {
         return seek::Searched::ByTriples(0);
     }
-    let s = seek::set_start(&work[..found], at, lo);
-    let k = seek::set_size(&work[..found], at, lo);
+    let s = ix.set_start(lo);
+    let k = ix.set_size(lo);
     if k < 3 {
         return seek::Searched::ByTriples(0);
     }

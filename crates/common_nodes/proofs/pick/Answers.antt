@@ -1,41 +1,25 @@
 -- `common_nodes::pick` meets its contract.
-use mathlib.Core.Path.{sym, ◌∙◌}
-use native.Mathlib.Omega.{arith}
-use lib.ListN.{length-set}
-use Rattle.laws.specs.Merging.{region}
-use Rattle.laws.proofs.Stores.{get_or-region, length-region}
-use Rattle.common_nodes.proofs.Picking.{picked_start, picked_in, picked_out, picked_all}
+use Prim.Native.Nat.{◌+◌}
+use mathlib.Core.Path.{◌≡◌, refl, sym, ◌∙◌}
+use lib.ListN.{get_or}
+use Rattle.laws.specs.Lists.{elem}
+use Rattle.common_nodes.proofs.Picking.{Picked, member, picked_start, picked_in, picked_out, picked_as}
+use Rattle.common_nodes.proofs.pick.Goals.{then-contains, else-contains}
 use Rattle.common_nodes.proofs.pick.Goals as goal
 
-pub loop-i-init : goal.loop-i-init
-loop-i-init c =
-    let a = c.args in
-    (picked_start (region a.s a.k a.base.now) (region a.t a.j a.base.now) a.own.now, omega arith)
+pub loop-v-init : goal.loop-v-init
+loop-v-init c = picked_start c.args.words.now c.args.others.now c.args.own.now
 
-pub loop-i-preserved-then-has : goal.loop-i-preserved-then-has
-loop-i-preserved-then-has c =
+pub loop-v-preserved : goal.loop-v-preserved
+loop-v-preserved c =
     let a = c.args in
-    let o = c.loop-i in
-    let h = c.loop-i-test.true in
-    let A = region a.s a.k a.base.now in
-    let k = length-region a.s a.k a.base.now c.requires.0 in (
-      picked_in A (region a.t a.j a.base.now) a.own.now o.own o.n o.i _ o.invariant.0 (omega (arith, h, k)) (sym (get_or-region a.s a.k a.base.now o.i 0 h)) (sym c.has.ensures ∙ c.if-has.true),
-      length-set o.own o.n _ ∙ o.invariant.1,
-    )
-
-pub loop-i-preserved : goal.loop-i-preserved
-loop-i-preserved c =
-    let a = c.args in
-    let o = c.loop-i in
-    let h = c.loop-i-test.true in
-    let A = region a.s a.k a.base.now in
-    let k = length-region a.s a.k a.base.now c.requires.0 in (
-      picked_out A (region a.t a.j a.base.now) a.own.now o.own o.n o.i _ o.invariant.0 (omega (arith, h, k)) (sym (get_or-region a.s a.k a.base.now o.i 0 h)) (sym c.has.ensures ∙ c.if-has.false),
-      o.invariant.1,
-    )
-
-pub returns : goal.returns
-returns c =
-    let a = c.args in
-    let k = length-region a.s a.k a.base.now c.requires.0 in
-    picked_all (region a.s a.k a.base.now) (region a.t a.j a.base.now) a.own.now c.loop-i.own c.loop-i.n c.loop-i.i c.loop-i.invariant.0 (omega (arith, k, c.loop-i-test.false))
+    let o = c.loop-v in
+    let A = a.words.now in
+    let B = a.others.now in
+    let v = get_or A o.v-index 0 in
+    let e : elem v B ≡ c.contains.result = member v B ∙ sym c.contains.ensures.value in
+    let next : Picked A B a.own.now c.if-contains.own c.if-contains.n (o.v-index + 1) = elim c.if-contains.branch [
+      | then-contains w ↦ picked_as w.own-is w.n-is (picked_in A B a.own.now o.own o.n o.v-index v o.invariant c.loop-v-test.true refl (e ∙ w.if-contains.true))
+      | else-contains w ↦ picked_as w.own-is w.n-is (picked_out A B a.own.now o.own o.n o.v-index v o.invariant c.loop-v-test.true refl (e ∙ w.if-contains.false))
+    ] in
+    next

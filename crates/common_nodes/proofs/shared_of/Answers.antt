@@ -5,40 +5,28 @@ use Prim.Native.Nat.{ℕ, ◌≤◌}
 use lib.ListN.{length}
 use native.Mathlib.Omega.{arith}
 use Rattle.geometry.specs.Points.{points_of, centre_of}
-use Rattle.index.specs.Faces.{input, nodes_of}
+use Rattle.index.specs.Read.{set_of}
 use Rattle.seek.specs.Candidates.{common}
-use Rattle.seek.proofs.Read.{node_low}
-use Rattle.common_nodes.proofs.Picking.{common_in, common_few, front, front_in}
+use Rattle.index.proofs.Read.{node_low}
+use Rattle.common_nodes.proofs.Picking.{common_in, front, front_in}
 use Rattle.common_nodes.proofs.shared_of.Goals as goal
-
-pub slice_bounds-key_centroid-end : goal.slice_bounds-key_centroid-end
-slice_bounds-key_centroid-end c =
-    let a = c.args in
-    let A = nodes_of a.at (input a.at a.base.now) a.f in
-    let B = nodes_of a.at (input a.at a.base.now) a.g in
-    let few = c.requires.indexed.laid.few a.f c.requires.f_lt_faces.0 in
-    let most : length (common A B) ≤ 64 = omega (arith, few, common_few A B) in
-    omega (arith, most, c.list_common-n.ensures.0)
 
 pub key_centroid-requires : goal.key_centroid-requires
 key_centroid-requires c =
     let a = c.args in
-    let A = nodes_of a.at (input a.at a.base.now) a.f in
-    let B = nodes_of a.at (input a.at a.base.now) a.g in
-    let few = c.requires.indexed.laid.few a.f c.requires.f_lt_faces.0 in
-    let most : length (common A B) ≤ 64 = omega (arith, few, common_few A B) in (
-      front_in a.coords.now _ _ (common A B) _ c.list_common-n.ensures.1 c.list_common-n.ensures.0 refl most (common_in a.coords.now a.at.nodes A B c.requires.nodes_value (λ i h. node_low a.at a.base.now c.requires.indexed a.f i c.requires.f_lt_faces.0 h)),
-      omega (arith, most, ap length (front _ _ (common A B) _ c.list_common-n.ensures.1 c.list_common-n.ensures.0 refl most)),
+    let i = a.ix.now in
+    let A = set_of i a.f in
+    let B = set_of i a.g in
+    let most : length (common A B) ≤ 64 = omega (arith, c.list_common-n.ensures.count) in (
+      front_in a.coords.now _ _ (common A B) _ c.list_common-n.ensures.own_after c.list_common-n.ensures.count.0 refl most (common_in a.coords.now i.at.nodes A B c.requires.nodes_value (λ k h. node_low i.at i.base.now i.indexed a.f k c.requires.f_lt_faces.0 h)),
+      omega (arith, most, ap length (front _ _ (common A B) _ c.list_common-n.ensures.own_after c.list_common-n.ensures.count.0 refl most)),
     )
 
-pub returns : goal.returns
-returns c =
+pub returns-clause-centre_value : goal.returns-clause-centre_value
+returns-clause-centre_value c =
     let a = c.args in
-    let A = nodes_of a.at (input a.at a.base.now) a.f in
-    let B = nodes_of a.at (input a.at a.base.now) a.g in
-    let few = c.requires.indexed.laid.few a.f c.requires.f_lt_faces.0 in
-    let most : length (common A B) ≤ 64 = omega (arith, few, common_few A B) in
-    record {
-      count_value = (c.list_common-n.ensures.0, omega (arith, most, c.list_common-n.ensures.0));
-      centre_value = c.key_centroid.ensures ∙ ap (λ (l : List ℕ). centre_of (points_of a.coords.now l)) (front _ _ (common A B) _ c.list_common-n.ensures.1 c.list_common-n.ensures.0 refl most);
-    }
+    let i = a.ix.now in
+    let A = set_of i a.f in
+    let B = set_of i a.g in
+    let most : length (common A B) ≤ 64 = omega (arith, c.list_common-n.ensures.count) in
+    c.key_centroid.ensures ∙ ap (λ (l : List ℕ). centre_of (points_of a.coords.now l)) (front _ _ (common A B) _ c.list_common-n.ensures.own_after c.list_common-n.ensures.count.0 refl most)

@@ -1,91 +1,46 @@
 -- `overfull::rarest` meets its contract: whichever word is answered is one of the set.
-use Prim.Native.Nat.{ℕ, ◌+◌, ◌<◌}
+use Prim.Native.Nat.{ℕ, ◌<◌}
 use mathlib.Core.Path.{◌≡◌, ap, ◌∙◌}
+use mathlib.Core.Bool.{true}
 use native.Mathlib.Omega.{arith}
-use lib.ListN.{get_or}
-use Rattle.overfull.proofs.Nodes.{member_low, word_in, word_member}
+use lib.ListN.{length}
+use Rattle.laws.specs.Lists.{elem}
+use Rattle.index.specs.Read.{set_of}
+use Rattle.overfull.proofs.Nodes.{member_low, word_member, later_member}
+use Rattle.overfull.proofs.rarest.Goals.{then-m-least, else-m-least}
 use Rattle.overfull.proofs.rarest.Goals as goal
-
-pub offset_bounds-base-s : goal.offset_bounds-base-s
-offset_bounds-base-s c =
-    let a = c.args in
-    let r = c.requires in
-    let s = c.set_start-s in
-    let k = c.set_size-k in
-    let n : 0 < k.result = omega (arith, k.ensures, r.g_lt_faces.1) in
-    omega (arith, c.well_formed.0, word_in a.at a.base.now r.indexed a.g r.g_lt_faces.0 s.result k.result s.ensures k.ensures 0 n)
-
-pub bounds-base-s : goal.bounds-base-s
-bounds-base-s c =
-    let a = c.args in
-    let r = c.requires in
-    let s = c.set_start-s in
-    let k = c.set_size-k in
-    let n : 0 < k.result = omega (arith, k.ensures, r.g_lt_faces.1) in
-    omega (arith, word_in a.at a.base.now r.indexed a.g r.g_lt_faces.0 s.result k.result s.ensures k.ensures 0 n)
 
 pub list_length-least-requires : goal.list_length-least-requires
 list_length-least-requires c =
     let a = c.args in
-    let r = c.requires in
-    let s = c.set_start-s in
-    let k = c.set_size-k in
-    let n : 0 < k.result = omega (arith, k.ensures, r.g_lt_faces.1) in
-    let z : s.result ≡ s.result + 0 = omega arith in
-    let first = word_member a.at a.base.now r.indexed a.g r.g_lt_faces.0 s.result k.result s.ensures k.ensures 0 n
-    c.wide-v.result (c.wide-v.ensures ∙ ap (λ (x : ℕ). get_or a.base.now x 0) z) in
-    record { indexed = r.indexed; v_lt_nodes = member_low a.at a.base.now r.indexed a.g r.g_lt_faces.0 c.wide-v.result first }
+    let i = a.ix.now in
+    let k = c.set-keys in
+    let n : 0 < length k.result.now = omega (arith, ap length k.ensures, c.requires.1) in
+    member_low i.at i.base.now i.indexed a.g c.requires.0 _ (word_member i.at i.base.now i.indexed a.g c.requires.0 k.result.now k.ensures 0 n)
 
-pub loop-i-init : goal.loop-i-init
-loop-i-init c =
+pub loop-u-init : goal.loop-u-init
+loop-u-init c =
     let a = c.args in
-    let r = c.requires in
-    let s = c.set_start-s in
-    let k = c.set_size-k in
-    let n : 0 < k.result = omega (arith, k.ensures, r.g_lt_faces.1) in
-    let z : s.result ≡ s.result + 0 = omega arith in
-    word_member a.at a.base.now r.indexed a.g r.g_lt_faces.0 s.result k.result s.ensures k.ensures 0 n
-    c.wide-v.result (c.wide-v.ensures ∙ ap (λ (x : ℕ). get_or a.base.now x 0) z)
-
-pub overflow_add-s : goal.overflow_add-s
-overflow_add-s c =
-    let a = c.args in
-    let r = c.requires in
-    let s = c.set_start-s in
-    let k = c.set_size-k in
-    omega (arith, c.well_formed.0, word_in a.at a.base.now r.indexed a.g r.g_lt_faces.0 s.result k.result s.ensures k.ensures c.loop-i.i c.loop-i-test.true)
-
-pub offset_bounds-base-s-in-loop-i : goal.offset_bounds-base-s-in-loop-i
-offset_bounds-base-s-in-loop-i c =
-    let a = c.args in
-    let r = c.requires in
-    let s = c.set_start-s in
-    let k = c.set_size-k in
-    omega (arith, c.well_formed.0, word_in a.at a.base.now r.indexed a.g r.g_lt_faces.0 s.result k.result s.ensures k.ensures c.loop-i.i c.loop-i-test.true)
-
-pub bounds-base-s-in-loop-i : goal.bounds-base-s-in-loop-i
-bounds-base-s-in-loop-i c =
-    let a = c.args in
-    let r = c.requires in
-    let s = c.set_start-s in
-    let k = c.set_size-k in
-    omega (arith, word_in a.at a.base.now r.indexed a.g r.g_lt_faces.0 s.result k.result s.ensures k.ensures c.loop-i.i c.loop-i-test.true)
+    let i = a.ix.now in
+    let k = c.set-keys in
+    let n : 0 < length k.result.now = omega (arith, ap length k.ensures, c.requires.1) in
+    word_member i.at i.base.now i.indexed a.g c.requires.0 k.result.now k.ensures 0 n
 
 pub list_length-m-requires : goal.list_length-m-requires
 list_length-m-requires c =
     let a = c.args in
-    let r = c.requires in
-    let s = c.set_start-s in
-    let k = c.set_size-k in
-    let later = word_member a.at a.base.now r.indexed a.g r.g_lt_faces.0 s.result k.result s.ensures k.ensures
-    c.loop-i.i c.loop-i-test.true c.wide-u.result c.wide-u.ensures in
-    record { indexed = r.indexed; v_lt_nodes = member_low a.at a.base.now r.indexed a.g r.g_lt_faces.0 c.wide-u.result later }
+    let i = a.ix.now in
+    let k = c.set-keys in
+    member_low i.at i.base.now i.indexed a.g c.requires.0 _ (later_member i.at i.base.now i.indexed a.g c.requires.0 k.result.now k.ensures c.loop-u.u-index c.loop-u-test.true)
 
-pub loop-i-preserved-then-m-least : goal.loop-i-preserved-then-m-least
-loop-i-preserved-then-m-least c =
+pub loop-u-preserved : goal.loop-u-preserved
+loop-u-preserved c =
     let a = c.args in
-    let r = c.requires in
-    let s = c.set_start-s in
-    let k = c.set_size-k in
-    word_member a.at a.base.now r.indexed a.g r.g_lt_faces.0 s.result k.result s.ensures k.ensures
-    c.loop-i.i c.loop-i-test.true c.wide-u.result c.wide-u.ensures
+    let i = a.ix.now in
+    let k = c.set-keys in
+    let l = c.loop-u in
+    let now : elem c.if-m-least.v (set_of i a.g) ≡ true = elim c.if-m-least.branch [
+      | then-m-least w ↦ ap (λ (x : ℕ). elem x (set_of i a.g)) w.v-is ∙ later_member i.at i.base.now i.indexed a.g c.requires.0 k.result.now k.ensures l.u-index c.loop-u-test.true
+      | else-m-least w ↦ ap (λ (x : ℕ). elem x (set_of i a.g)) w.v-is ∙ l.invariant
+    ] in
+    now

@@ -7,4 +7,4 @@ use Rattle.pairs.proofs.by_nodes.Goals as goal
 
 pub returns : goal.returns
 unfolding is_by_nodes
-returns c = ap₂ (λ (x y : ℕ). leb x (4 * y)) c.node_work-a.ensures c.triple_work-b.ensures.0
+returns c = ap₂ (λ (x y : ℕ). leb x (4 * y)) c.node_work.ensures c.triple_work.ensures.0

@@ -9,10 +9,11 @@ use Rattle.counting.specs.Counts.{times, below}
 use Rattle.counting.proofs.CountLaws.{below_suc}
 use Rattle.index.specs.declared.Places.{Places}
 use Rattle.index.specs.Faces.{input, words_of, Indexed}
+use Rattle.index.specs.Read.{input_of}
 use Rattle.index.proofs.Built.{list_long}
-use Rattle.seek.proofs.Read.{below_words}
+use Rattle.index.proofs.Read.{below_words}
 use Rattle.pairs.specs.Work.{node_work, Few}
-use Rattle.pairs.proofs.Sums.{left_all, left_turn, left_end}
+use Rattle.pairs.proofs.Sums.{left_all, left_turn}
 use Rattle.pairs.proofs.node_work.Invariants.{f}
 use Rattle.pairs.proofs.node_work.Goals as goal
 
@@ -27,31 +28,24 @@ room p b ix few n = (
 pub loop-n-init : goal.loop-n-init
 unfolding node_work
 loop-n-init c =
-    let a = c.args in (omega arith, omega arith, left_all (f a.at a.base.now) a.at.nodes)
+    let i = c.args.ix.now in (omega arith, left_all (f i.at i.base.now) i.at.nodes)
 
 pub pairs_of-total-requires : goal.pairs_of-total-requires
 pairs_of-total-requires c =
-    let a = c.args in
-    omega (arith, c.list_length.ensures, room a.at a.base.now c.requires.indexed c.requires.few c.loop-n.n)
+    let i = c.args.ix.now in
+    omega (arith, c.list_length.ensures, room i.at i.base.now i.indexed c.requires c.loop-n.n)
 
 pub overflow_add-total : goal.overflow_add-total
 overflow_add-total c =
-    let a = c.args in
-    omega (arith, c.loop-n.invariant.1, c.pairs_of-total.ensures.1, c.list_length.ensures, room a.at a.base.now c.requires.indexed c.requires.few c.loop-n.n)
+    let i = c.args.ix.now in
+    omega (arith, c.loop-n.invariant.0, c.pairs_of-total.ensures.1, c.list_length.ensures, room i.at i.base.now i.indexed c.requires c.loop-n.n)
 
 pub loop-n-preserved : goal.loop-n-preserved
 loop-n-preserved c =
-    let a = c.args in
+    let i = c.args.ix.now in
     let l = c.loop-n in
-    let t = input a.at a.base.now in (
-      omega arith,
-      omega (arith, l.invariant.1, c.pairs_of-total.ensures.1, c.list_length.ensures, (room a.at a.base.now c.requires.indexed c.requires.few l.n).0),
-      left_turn (f a.at a.base.now) a.at.nodes l.n l.total c.pairs_of-total.result (node_work a.at t) c.loop-n-test.true l.invariant.2
-          (c.pairs_of-total.ensures.0 ∙ ap pairs_of (c.list_length.ensures ∙ sym (list_long a.at t c.requires.indexed.laid l.n))),
+    let t = input_of i in (
+      omega (arith, l.invariant.0, c.pairs_of-total.ensures.1, c.list_length.ensures, (room i.at i.base.now i.indexed c.requires l.n).0),
+      left_turn (f i.at i.base.now) i.at.nodes l.n l.total c.pairs_of-total.result (node_work i.at t) c.loop-n-test.true l.invariant.1
+          (c.pairs_of-total.ensures.0 ∙ ap pairs_of (c.list_length.ensures ∙ sym (list_long i.at t i.indexed.laid l.n))),
     )
-
-pub returns : goal.returns
-returns c =
-    let a = c.args in
-    let l = c.loop-n in
-    left_end (f a.at a.base.now) a.at.nodes l.n l.total (node_work a.at (input a.at a.base.now)) c.loop-n-test.false l.invariant.2

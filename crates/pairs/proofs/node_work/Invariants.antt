@@ -1,4 +1,4 @@
-use Prim.Native.Nat.{ℕ, ◌+◌, ◌-◌, ◌*◌, ◌≤◌, ◌^◌}
+use Prim.Native.Nat.{ℕ, ◌+◌, ◌*◌, ◌≤◌, ◌^◌}
 use mathlib.Core.List.{List}
 use mathlib.Core.Path.{◌≡◌}
 use lib.ListN.{length}
@@ -14,7 +14,4 @@ abbrev pub f : Places → List ℕ → ℕ → ℕ
 f p b n = pairs_of (length (faces_with p (input p b) n))
 
 abbrev pub invariant-loop-n : goal.invariant-loop-n
-invariant-loop-n l = (l.n ≤ l.at.nodes) × (l.total ≤ below l.n (words_of l.at (input l.at l.base)) * 2 ^ 20) × (l.total + left (f l.at l.base) l.n l.at.nodes ≡ node_work l.at (input l.at l.base))
-
-abbrev pub decreases-loop-n : goal.decreases-loop-n
-decreases-loop-n l = l.at.nodes - l.n
+invariant-loop-n l = (l.total ≤ below l.n (words_of l.ix.at (input l.ix.at l.ix.base.now)) * 2 ^ 20) × (l.total + left (f l.ix.at l.ix.base.now) l.n l.ix.at.nodes ≡ node_work l.ix.at (input l.ix.at l.ix.base.now))

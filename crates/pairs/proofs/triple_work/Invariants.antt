@@ -1,4 +1,4 @@
-use Prim.Native.Nat.{ℕ, ◌+◌, ◌-◌, ◌*◌, ◌≤◌, ◌^◌}
+use Prim.Native.Nat.{ℕ, ◌+◌, ◌*◌, ◌≤◌, ◌^◌}
 use mathlib.Core.List.{List}
 use mathlib.Core.Path.{◌≡◌}
 use lib.ListN.{length}
@@ -13,7 +13,4 @@ abbrev pub f : Places → List ℕ → ℕ → ℕ
 f p b g = triples_of (length (nodes_of p (input p b) g))
 
 abbrev pub invariant-loop-g : goal.invariant-loop-g
-invariant-loop-g l = (l.g ≤ l.at.faces) × (l.total ≤ l.g * 2 ^ 18) × (l.total + left (f l.at l.base) l.g l.at.faces ≡ triple_work l.at (input l.at l.base))
-
-abbrev pub decreases-loop-g : goal.decreases-loop-g
-decreases-loop-g l = l.at.faces - l.g
+invariant-loop-g l = (l.total ≤ l.g * 2 ^ 18) × (l.total + left (f l.ix.at l.ix.base.now) l.g l.ix.at.faces ≡ triple_work l.ix.at (input l.ix.at l.ix.base.now))

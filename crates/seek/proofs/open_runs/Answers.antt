@@ -7,7 +7,9 @@ use lib.Seq.{sets}
 use lib.ListN.{length, get_or}
 use Rattle.index.specs.declared.Places.{Places}
 use Rattle.index.specs.Faces.{input, start_of, nodes_of, words_of, Indexed}
-use Rattle.seek.proofs.Read.{long, nodes_fit, slot_low, value_low, the_places, no_more}
+use Rattle.index.specs.Read.{input_of, set_of}
+use Rattle.index.proofs.Read.{long}
+use Rattle.seek.proofs.Read.{nodes_fit, slot_low, value_low, the_places, no_more}
 use Rattle.seek.proofs.open_runs.Goals as goal
 
 -- what `places` requires
@@ -25,25 +27,27 @@ asks p b ix fit lo h s k is-s is-k o d d≤1 is-o =
 pub places-requires : goal.places-requires
 places-requires c =
     let a = c.args in
-    let q = c.requires in
-    asks a.at a.base.now q.indexed (omega (arith, c.well_formed.0)) a.lo q.lo_lt_faces c.set_start-s.result c.set_size-k.result c.set_start-s.ensures c.set_size-k.ensures a.at.offsets 0 (omega arith) (omega arith)
+    let i = a.ix.now in
+    asks i.at i.base.now i.indexed (omega (arith, c.well_formed)) a.lo c.requires c.set_start-s.result c.set_size-k.result c.set_start-s.ensures c.set_size-k.ensures i.at.offsets 0 (omega arith) (omega arith)
 
 pub places-requires-2 : goal.places-requires-2
 places-requires-2 c =
     let a = c.args in
-    let q = c.requires in
-    asks a.at a.base.now q.indexed (omega (arith, c.well_formed.0)) a.lo q.lo_lt_faces c.set_start-s.result c.set_size-k.result c.set_start-s.ensures c.set_size-k.ensures (a.at.offsets + 1) 1 (omega arith) refl
+    let i = a.ix.now in
+    asks i.at i.base.now i.indexed (omega (arith, c.well_formed)) a.lo c.requires c.set_start-s.result c.set_size-k.result c.set_start-s.ensures c.set_size-k.ensures (i.at.offsets + 1) 1 (omega arith) refl
 
-pub returns : goal.returns
-returns c =
+pub returns-clause-from_after : goal.returns-clause-from_after
+returns-clause-from_after c =
     let a = c.args in
-    let q = c.requires in
-    let b = a.base.now in
+    let i = a.ix.now in
     let u = c.set_start-s in
     let v = c.set_size-k in
-    let t = input a.at b in
-    record {
-      value = v.ensures;
-      from_after = c.places.ensures ∙ ap (sets a.from.now 0) (the_places a.at b q.indexed a.lo q.lo_lt_faces u.result v.result u.ensures v.ensures a.at.offsets 0 (omega arith) (omega arith) ∙ no_more a.at.index (words_of a.at t) (nodes_of a.at t a.lo));
-      to_after = c.places-2.ensures ∙ ap (sets a.to.now 0) (the_places a.at b q.indexed a.lo q.lo_lt_faces u.result v.result u.ensures v.ensures (a.at.offsets + 1) 1 (omega arith) refl);
-    }
+    c.places.ensures ∙ ap (sets a.from.now 0) (the_places i.at i.base.now i.indexed a.lo c.requires u.result v.result u.ensures v.ensures i.at.offsets 0 (omega arith) (omega arith) ∙ no_more i.at.index (words_of i.at (input_of i)) (set_of i a.lo))
+
+pub returns-clause-to_after : goal.returns-clause-to_after
+returns-clause-to_after c =
+    let a = c.args in
+    let i = a.ix.now in
+    let u = c.set_start-s in
+    let v = c.set_size-k in
+    c.places-2.ensures ∙ ap (sets a.to.now 0) (the_places i.at i.base.now i.indexed a.lo c.requires u.result v.result u.ensures v.ensures (i.at.offsets + 1) 1 (omega arith) refl)

@@ -1,4 +1,3 @@
-use Prim.Native.Nat.{◌-◌}
 use mathlib.Core.Path.{◌≡◌}
 use lib.Dec.{leb}
 use Rattle.laws.specs.Lists.{keep}
@@ -8,6 +7,3 @@ use Rattle.seek.proofs.skip_run.Given as goal
 
 abbrev pub invariant-loop-i : goal.invariant-loop-i
 invariant-loop-i l = Rising l.i l.e l.base × (keep (leb l.end) (rest l.i l.e l.base) ≡ keep (leb l.end) (rest l.x l.e l.base))
-
-abbrev pub decreases-loop-i : goal.decreases-loop-i
-decreases-loop-i l = l.e - l.i

@@ -1,66 +1,41 @@
--- `triples::has_three` meets its contract.
-use Prim.Native.Nat.{◌<◌}
-use mathlib.Core.Path.{sym}
+-- `triples::has_three` meets its contract. The laws are those of Three.
 use native.Mathlib.Omega.{arith}
-use Rattle.laws.specs.Merging.{region}
-use Rattle.laws.proofs.Stores.{get_or-region, length-region}
-use Rattle.triples.proofs.Three.{seen_start, seen_lower, seen_higher, seen_third, seen_both, seen_all, seen_out}
+use mathlib.Core.Path.{refl}
+use Rattle.triples.proofs.Three.{seen_lower, seen_higher, seen_third, seen_both, seen_all, seen_out}
 use Rattle.triples.proofs.has_three.Goals as goal
 
-pub loop-i-init : goal.loop-i-init
-loop-i-init c =
-    let a = c.args in seen_start (region a.s a.k a.base.now) (region a.t a.j a.base.now)
-
-pub returns-then-j-m : goal.returns-then-j-m
-returns-then-j-m c =
+pub returns-then-b-m : goal.returns-then-b-m
+returns-then-b-m c =
     let a = c.args in
-    let w = a.base.now in
     let o = c.loop-i in
-    seen_out (region a.s a.k w) (region a.t a.j w) o.n o.i o.m o.invariant (omega (arith, c.if-j-m.true, length-region a.t a.j w c.requires.k_in_bounds.1))
+    seen_out a.a.now a.b.now o.n o.i o.m o.invariant c.if-b-m.true
 
-pub loop-i-preserved-then-a-b : goal.loop-i-preserved-then-a-b
-loop-i-preserved-then-a-b c =
+pub loop-i-preserved-then-x-y : goal.loop-i-preserved-then-x-y
+loop-i-preserved-then-x-y c =
     let a = c.args in
-    let w = a.base.now in
     let o = c.loop-i in
-    let h = c.loop-i-test.true in
-    let l : o.m < a.j = omega (arith, c.if-j-m.false) in
-    seen_lower (region a.s a.k w) (region a.t a.j w) c.requires.asc.0 c.requires.asc.1 o.n o.i o.m _ _ o.invariant
-    (omega (arith, h, length-region a.s a.k w c.requires.k_in_bounds.0)) (omega (arith, l, length-region a.t a.j w c.requires.k_in_bounds.1)) (sym (get_or-region a.s a.k w o.i 0 h)) (sym (get_or-region a.t a.j w o.m 0 l)) c.if-a-b.true
+    seen_lower a.a.now a.b.now c.requires.0 c.requires.1 o.n o.i o.m _ _ o.invariant c.loop-i-test.true c.if-b-m.false refl refl c.if-x-y.true
 
-pub loop-i-preserved-then-b-a : goal.loop-i-preserved-then-b-a
-loop-i-preserved-then-b-a c =
+pub loop-i-preserved-then-y-x : goal.loop-i-preserved-then-y-x
+loop-i-preserved-then-y-x c =
     let a = c.args in
-    let w = a.base.now in
     let o = c.loop-i in
-    let h = c.loop-i-test.true in
-    let l : o.m < a.j = omega (arith, c.if-j-m.false) in
-    seen_higher (region a.s a.k w) (region a.t a.j w) c.requires.asc.0 c.requires.asc.1 o.n o.i o.m _ _ o.invariant
-    (omega (arith, h, length-region a.s a.k w c.requires.k_in_bounds.0)) (omega (arith, l, length-region a.t a.j w c.requires.k_in_bounds.1)) (sym (get_or-region a.s a.k w o.i 0 h)) (sym (get_or-region a.t a.j w o.m 0 l)) c.if-b-a.true
+    seen_higher a.a.now a.b.now c.requires.0 c.requires.1 o.n o.i o.m _ _ o.invariant c.loop-i-test.true c.if-b-m.false refl refl c.if-y-x.true
 
 pub returns-then-n-eq2 : goal.returns-then-n-eq2
 returns-then-n-eq2 c =
     let a = c.args in
-    let w = a.base.now in
     let o = c.loop-i in
-    let h = c.loop-i-test.true in
-    let l : o.m < a.j = omega (arith, c.if-j-m.false) in
-    seen_third (region a.s a.k w) (region a.t a.j w) c.requires.asc.0 c.requires.asc.1 o.n o.i o.m _ _ o.invariant
-    (omega (arith, h, length-region a.s a.k w c.requires.k_in_bounds.0)) (omega (arith, l, length-region a.t a.j w c.requires.k_in_bounds.1)) (sym (get_or-region a.s a.k w o.i 0 h)) (sym (get_or-region a.t a.j w o.m 0 l)) (omega (arith, c.if-b-a.false, c.if-a-b.false)) (omega (arith, c.if-n-eq2.true))
+    seen_third a.a.now a.b.now c.requires.0 c.requires.1 o.n o.i o.m _ _ o.invariant c.loop-i-test.true c.if-b-m.false refl refl (omega arith) (omega arith)
 
 pub loop-i-preserved : goal.loop-i-preserved
 loop-i-preserved c =
     let a = c.args in
-    let w = a.base.now in
     let o = c.loop-i in
-    let h = c.loop-i-test.true in
-    let l : o.m < a.j = omega (arith, c.if-j-m.false) in
-    seen_both (region a.s a.k w) (region a.t a.j w) c.requires.asc.0 c.requires.asc.1 o.n o.i o.m _ _ o.invariant
-    (omega (arith, h, length-region a.s a.k w c.requires.k_in_bounds.0)) (omega (arith, l, length-region a.t a.j w c.requires.k_in_bounds.1)) (sym (get_or-region a.s a.k w o.i 0 h)) (sym (get_or-region a.t a.j w o.m 0 l)) (omega (arith, c.if-b-a.false, c.if-a-b.false)) (omega (arith, c.if-n-eq2.false, o.invariant.few))
+    seen_both a.a.now a.b.now c.requires.0 c.requires.1 o.n o.i o.m _ _ o.invariant c.loop-i-test.true c.if-b-m.false refl refl (omega arith) (omega (arith, o.invariant.few))
 
 pub returns : goal.returns
 returns c =
     let a = c.args in
-    let w = a.base.now in
     let o = c.loop-i in
-    seen_all (region a.s a.k w) (region a.t a.j w) o.n o.i o.m o.invariant (omega (arith, c.loop-i-test.false, length-region a.s a.k w c.requires.k_in_bounds.0))
+    seen_all a.a.now a.b.now o.n o.i o.m o.invariant c.loop-i-test.false

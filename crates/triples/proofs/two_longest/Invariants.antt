@@ -1,8 +1,5 @@
-use Prim.Native.Nat.{◌-◌, ◌≤◌, ◌<◌}
+use Prim.Native.Nat.{◌≤◌, ◌<◌}
 use Rattle.triples.proofs.two_longest.Given as goal
 
 abbrev pub invariant-loop-k : goal.invariant-loop-k
-invariant-loop-k l = (l.s ≤ l.t.i) × (l.t.i < l.t.j) × (l.t.j < l.k) × (l.k ≤ l.e)
-
-abbrev pub decreases-loop-k : goal.decreases-loop-k
-decreases-loop-k l = l.e - l.k
+invariant-loop-k l = (l.s ≤ l.t.i) × (l.t.i < l.t.j) × (l.t.j < l.k)

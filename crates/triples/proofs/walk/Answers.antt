@@ -1,6 +1,6 @@
 -- `triples::walk` meets its contract. A loop of Turns: the pieces are the hits among the faces.
 use Prim.Native.Nat.{ℕ, ◌+◌, ◌≤◌, ◌<◌}
-use mathlib.Core.Path.{◌≡◌, refl, ap₂, ◌∙◌, subst}
+use mathlib.Core.Path.{◌≡◌, refl, ap₂, subst}
 use mathlib.Core.List.{List, [], ◌∷◌}
 use native.Mathlib.Omega.{arith}
 use lib.ListN.{length, get_or}
@@ -61,33 +61,20 @@ module _ (p : Places) (lo n : ℕ) (w : List ℕ) (op : Open p lo n w) (s e : �
 pub loop-i-init : goal.loop-i-init
 loop-i-init c =
     let a = c.args in
-    (omega arith, start a.at a.lo a.n a.work.now c.requires.fact a.x a.e c.requires.e_le_found)
+    start a.at a.lo a.n a.work.now c.requires.fact a.x a.e c.requires.e_le_found
 
-pub offset_bounds-work-i : goal.offset_bounds-work-i
-offset_bounds-work-i c = omega (arith, c.requires.e_le_found.0, c.requires.fact.ready.room, c.well_formed.0, c.loop-i-test.true)
-
-pub bounds-work-i : goal.bounds-work-i
-bounds-work-i c =
+pub consider-n-requires-clause-fact : goal.consider-n-requires-clause-fact
+consider-n-requires-clause-fact c =
     let a = c.args in
     let l = c.loop-i in
-    omega (
-      arith,
-      c.requires.e_le_found.0,
-      c.requires.fact.ready.room,
-      c.loop-i-test.true,
-      long a.at a.lo a.n a.work.now c.requires.fact a.x a.e c.requires.e_le_found l.i l.n l.work l.invariant.1,
-    )
+    more a.at a.lo a.n a.work.now c.requires.fact a.x a.e c.requires.e_le_found l.i l.n l.work l.invariant
 
-pub consider-n-requires : goal.consider-n-requires
-consider-n-requires c =
+pub consider-n-requires-clause-g_lt_faces : goal.consider-n-requires-clause-g_lt_faces
+consider-n-requires-clause-g_lt_faces c =
     let a = c.args in
     let l = c.loop-i in
     let k = c.loop-i-test.true in
-    let is = read a.at a.lo a.n a.work.now c.requires.fact a.x a.e c.requires.e_le_found l.i l.n l.work l.invariant.1 k in
-    record {
-      fact = more a.at a.lo a.n a.work.now c.requires.fact a.x a.e c.requires.e_le_found l.i l.n l.work l.invariant.1;
-      g_lt_faces = omega (arith, c.wide-g.ensures, is, c.requires.e_le_found.1 l.i l.invariant.0 k);
-    }
+    omega (arith, read a.at a.lo a.n a.work.now c.requires.fact a.x a.e c.requires.e_le_found l.i l.n l.work l.invariant k, c.requires.e_le_found.1 l.i l.auto.i k)
 
 pub loop-i-preserved : goal.loop-i-preserved
 loop-i-preserved c =
@@ -95,19 +82,5 @@ loop-i-preserved c =
     let l = c.loop-i in
     let k = c.loop-i-test.true in
     let f = c.consider-n in
-    let is = read a.at a.lo a.n a.work.now c.requires.fact a.x a.e c.requires.e_le_found l.i l.n l.work l.invariant.1 k in (
-      omega arith,
-      next a.at a.lo a.n a.work.now c.requires.fact a.x a.e c.requires.e_le_found l.i l.n l.work l.invariant.1 k _ f.result f.new.work (c.wide-g.ensures ∙ is) f.ensures,
-    )
-
-pub shape_of-work : goal.shape_of-work
-shape_of-work c =
-    let a = c.args in
-    let l = c.loop-i in
-    long a.at a.lo a.n a.work.now c.requires.fact a.x a.e c.requires.e_le_found l.i l.n l.work l.invariant.1
-
-pub returns : goal.returns
-returns c =
-    let a = c.args in
-    let l = c.loop-i in
-    done a.at a.lo a.n a.work.now c.requires.fact a.x a.e c.requires.e_le_found l.i l.n l.work l.invariant.1 c.loop-i-test.false
+    let is = read a.at a.lo a.n a.work.now c.requires.fact a.x a.e c.requires.e_le_found l.i l.n l.work l.invariant k in
+    next a.at a.lo a.n a.work.now c.requires.fact a.x a.e c.requires.e_le_found l.i l.n l.work l.invariant k _ f.result f.new.work is f.ensures

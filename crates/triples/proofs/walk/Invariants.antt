@@ -1,4 +1,4 @@
-use Prim.Native.Nat.{ℕ, ◌-◌, ◌≤◌}
+use Prim.Native.Nat.{ℕ}
 use mathlib.Core.List.{List}
 use Rattle.laws.specs.Lists.{keep}
 use Rattle.index.specs.declared.Places.{Places}
@@ -12,7 +12,4 @@ abbrev pub G : Places → List ℕ → ℕ → List ℕ → List ℕ
 G p w lo l = keep (shares p (input p (base p w)) lo) l
 
 abbrev pub invariant-loop-i : goal.invariant-loop-i
-invariant-loop-i l = (l.x ≤ l.i) × Prog l.at l.n-2 l.initial.work (G l.at l.initial.work l.lo (rest l.x l.e (base l.at l.initial.work))) (G l.at l.initial.work l.lo (rest l.i l.e (base l.at l.initial.work))) l.n l.work
-
-abbrev pub decreases-loop-i : goal.decreases-loop-i
-decreases-loop-i l = l.e - l.i
+invariant-loop-i l = Prog l.at l.n-2 l.initial.work (G l.at l.initial.work l.lo (rest l.x l.e (base l.at l.initial.work))) (G l.at l.initial.work l.lo (rest l.i l.e (base l.at l.initial.work))) l.n l.work

@@ -1,6 +1,6 @@
 -- `triples::walk_keys` meets its contract. A loop of Turns: the pieces are the candidates that have each key.
 use Prim.Native.Nat.{ℕ, ◌+◌, ◌≤◌, ◌<◌}
-use mathlib.Core.Path.{◌≡◌, refl, sym, ap₂, ◌∙◌, subst}
+use mathlib.Core.Path.{◌≡◌, refl, sym, ap₂, subst}
 use mathlib.Core.List.{List}
 use native.Mathlib.Omega.{arith}
 use lib.ListN.{length, get_or}
@@ -56,32 +56,26 @@ module _ (p q : Places) (lo n : ℕ) (w : List ℕ) (op : Open p lo n w) (bs : B
 pub loop-i-init : goal.loop-i-init
 loop-i-init c =
     let a = c.args in
-    (omega arith, start a.at a.by a.lo a.n a.work.now c.requires.fact c.requires.beside.0 a.s a.e c.requires.beside.1)
+    start a.at a.by a.lo a.n a.work.now c.requires.fact c.requires.beside.0 a.s a.e c.requires.beside.1
 
-pub offset_bounds-work-i : goal.offset_bounds-work-i
-offset_bounds-work-i c = omega (arith, c.requires.beside.1, c.requires.fact.ready.room, c.well_formed.0, c.loop-i-test.true)
-
-pub bounds-work-i : goal.bounds-work-i
-bounds-work-i c =
+pub walk_key-n-requires-clause-fact : goal.walk_key-n-requires-clause-fact
+walk_key-n-requires-clause-fact c =
     let a = c.args in
     let l = c.loop-i in
-    omega (arith, c.requires.beside.1, c.requires.fact.ready.room, c.loop-i-test.true, long a.at a.by a.lo a.n a.work.now c.requires.fact c.requires.beside.0 a.s a.e c.requires.beside.1 l.i l.n l.work l.invariant.1)
+    more a.at a.by a.lo a.n a.work.now c.requires.fact c.requires.beside.0 a.s a.e c.requires.beside.1 l.i l.n l.work l.invariant
 
-pub walk_key-n-requires : goal.walk_key-n-requires
-walk_key-n-requires c =
+pub walk_key-n-requires-clause-beside : goal.walk_key-n-requires-clause-beside
+walk_key-n-requires-clause-beside c =
     let a = c.args in
     let l = c.loop-i in
     let k = c.loop-i-test.true in
     let w = a.work.now in
     let op = c.requires.fact in
     let bs = c.requires.beside.0 in
-    let h = c.requires.beside.1 in record {
-      fact = more a.at a.by a.lo a.n w op bs a.s a.e h l.i l.n l.work l.invariant.1;
-      beside = (
-        subst (Beside a.at a.by) (sym (same a.at a.by a.lo a.n w op bs a.s a.e h l.i l.n l.work l.invariant.1)) bs,
-        omega (arith, c.wide-v.ensures, read a.at a.by a.lo a.n w op bs a.s a.e h l.i l.n l.work l.invariant.1 k, c.requires.beside.2 l.i l.invariant.0 k),
-      );
-    }
+    let h = c.requires.beside.1 in (
+      subst (Beside a.at a.by) (sym (same a.at a.by a.lo a.n w op bs a.s a.e h l.i l.n l.work l.invariant)) bs,
+      omega (arith, read a.at a.by a.lo a.n w op bs a.s a.e h l.i l.n l.work l.invariant k, c.requires.beside.2 l.i l.auto.i k),
+    )
 
 pub loop-i-preserved : goal.loop-i-preserved
 loop-i-preserved c =
@@ -92,20 +86,5 @@ loop-i-preserved c =
     let op = c.requires.fact in
     let bs = c.requires.beside.0 in
     let h = c.requires.beside.1 in
-    let f = c.walk_key-n in (
-      omega (arith, l.invariant.0),
-      next a.at a.by a.lo a.n w op bs a.s a.e h l.i l.n l.work l.invariant.1 k _ f.result f.new.work
-          (c.wide-v.ensures ∙ read a.at a.by a.lo a.n w op bs a.s a.e h l.i l.n l.work l.invariant.1 k) f.ensures,
-    )
-
-pub shape_of-work : goal.shape_of-work
-shape_of-work c =
-    let a = c.args in
-    let l = c.loop-i in
-    long a.at a.by a.lo a.n a.work.now c.requires.fact c.requires.beside.0 a.s a.e c.requires.beside.1 l.i l.n l.work l.invariant.1
-
-pub returns : goal.returns
-returns c =
-    let a = c.args in
-    let l = c.loop-i in
-    done a.at a.by a.lo a.n a.work.now c.requires.fact c.requires.beside.0 a.s a.e c.requires.beside.1 l.i l.n l.work l.invariant.1 c.loop-i-test.false
+    let f = c.walk_key-n in
+    next a.at a.by a.lo a.n w op bs a.s a.e h l.i l.n l.work l.invariant k _ f.result f.new.work (read a.at a.by a.lo a.n w op bs a.s a.e h l.i l.n l.work l.invariant k) f.ensures

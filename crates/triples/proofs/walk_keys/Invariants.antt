@@ -1,4 +1,4 @@
-use Prim.Native.Nat.{ℕ, ◌-◌, ◌≤◌}
+use Prim.Native.Nat.{ℕ}
 use mathlib.Core.List.{List}
 use Rattle.laws.specs.Lists.{each}
 use Rattle.index.specs.declared.Places.{Places}
@@ -12,7 +12,4 @@ abbrev pub G : Places → Places → List ℕ → ℕ → List ℕ → List ℕ
 G p q w lo l = each (hits_by p q (base p w) lo) l
 
 abbrev pub invariant-loop-i : goal.invariant-loop-i
-invariant-loop-i l = (l.s ≤ l.i) × Prog l.at l.n-2 l.initial.work (G l.at l.by l.initial.work l.lo (rest l.s l.e (base l.at l.initial.work))) (G l.at l.by l.initial.work l.lo (rest l.i l.e (base l.at l.initial.work))) l.n l.work
-
-abbrev pub decreases-loop-i : goal.decreases-loop-i
-decreases-loop-i l = l.e - l.i
+invariant-loop-i l = Prog l.at l.n-2 l.initial.work (G l.at l.by l.initial.work l.lo (rest l.s l.e (base l.at l.initial.work))) (G l.at l.by l.initial.work l.lo (rest l.i l.e (base l.at l.initial.work))) l.n l.work

@@ -1,10 +1,8 @@
 -- `triples::walk_rare` meets its contract. Three walks over keys, one after the other (Steps).
 use Prim.Native.Nat.{ℕ, ◌+◌}
-use mathlib.Core.Path.{◌≡◌, refl, sym, ◌∙◌, subst}
+use mathlib.Core.Path.{◌≡◌, ◌∙◌, subst}
 use mathlib.Core.List.{List, ◌++◌}
 use native.Mathlib.Omega.{arith}
-use lib.ListN.{length}
-use lib.Seq.{length-take-le}
 use Rattle.laws.specs.Lists.{each}
 use Rattle.index.specs.declared.Places.{Places}
 use Rattle.index.specs.Faces.{base}
@@ -19,27 +17,33 @@ read_back_lem : (p q : Places) (lo r : ℕ) (v : List ℕ) (r' : ℕ) (u : List 
     → Added p (each (hits_by p q b lo) (rest i j b) ++ each (hits_by p q b lo) (rest k e b)) r v r' u
 read_back_lem p q lo r v r' u i j k e b same a = subst (λ (x : List ℕ). Added p (each (hits_by p q x lo) (rest i j x) ++ each (hits_by p q x lo) (rest k e x)) r v r' u) same a
 
-pub slice_bounds-two_longest-end-2 : goal.slice_bounds-two_longest-end-2
-slice_bounds-two_longest-end-2 c =
-    let long : length (base c.args.at c.args.work.now) ≡ c.args.at.found = length-take-le c.args.at.found c.args.work.now (omega (arith, c.requires.fact.ready.room)) in
-    sym long
-
-pub two_longest-t-requires : goal.two_longest-t-requires
-two_longest-t-requires c =
-    let long : length (base c.args.at c.args.work.now) ≡ c.args.at.found = length-take-le c.args.at.found c.args.work.now (omega (arith, c.requires.fact.ready.room)) in
-    record { indexed = c.requires.beside.0.indexed; s_bound = (c.requires.beside.1, omega (arith, long, c.requires.beside.2), c.requires.beside.3) }
-
-pub walk_keys-a-requires : goal.walk_keys-a-requires
-walk_keys-a-requires c =
+pub walk_keys-b-requires-clause-fact : goal.walk_keys-b-requires-clause-fact
+walk_keys-b-requires-clause-fact c =
     let a = c.args in
-    let t = c.two_longest-t in
-    record {
-      fact = c.requires.fact;
-      beside = (c.requires.beside.0, omega (arith, t.ensures, c.requires.beside.2), known_part a.by (base a.at a.work.now) (base a.at a.work.now) a.s a.e a.s t.result.i refl (omega arith) (omega (arith, t.ensures)) c.requires.beside.3);
-    }
+    let k = c.walk_keys-a in
+    step_open a.at a.by a.lo a.n a.work.now c.requires.fact c.requires.beside.0 a.s c.two_longest-t.result.i k.result k.new.work k.ensures
 
-pub walk_keys-b-requires : goal.walk_keys-b-requires
-walk_keys-b-requires c =
+pub walk_keys-b-requires-clause-beside : goal.walk_keys-b-requires-clause-beside
+walk_keys-b-requires-clause-beside c =
+    let a = c.args in
+    let p = a.at in
+    let q = a.by in
+    let w = a.work.now in
+    let op = c.requires.fact in
+    let bs = c.requires.beside.0 in
+    let t = c.two_longest-t in
+    let k = c.walk_keys-a in
+    let i = t.result.i in
+    let j = t.result.j in
+    let v = k.new.work in
+    let same-v = step_base p q a.lo a.n w op bs a.s i k.result v k.ensures in (
+      step_beside p q a.lo a.n w op bs a.s i k.result v k.ensures q bs,
+      omega (arith, t.ensures, c.requires.beside.2),
+      known_part q (base p v) (base p w) a.s a.e (i + 1) j same-v (omega (arith, t.ensures)) (omega (arith, t.ensures)) c.requires.beside.3,
+    )
+
+pub walk_keys-requires-clause-fact : goal.walk_keys-requires-clause-fact
+walk_keys-requires-clause-fact c =
     let a = c.args in
     let p = a.at in
     let q = a.by in
@@ -52,15 +56,12 @@ walk_keys-b-requires c =
     let j = t.result.j in
     let v = k.new.work in
     let open-v = step_open p q a.lo a.n w op bs a.s i k.result v k.ensures in
-    let same-v = step_base p q a.lo a.n w op bs a.s i k.result v k.ensures in
     let beside-v = step_beside p q a.lo a.n w op bs a.s i k.result v k.ensures q bs in
-    record {
-      fact = open-v;
-      beside = (beside-v, omega (arith, t.ensures, c.requires.beside.2), known_part q (base p v) (base p w) a.s a.e (i + 1) j same-v (omega (arith, t.ensures)) (omega (arith, t.ensures)) c.requires.beside.3);
-    }
+    let m = c.walk_keys-b in
+    step_open p q a.lo k.result v open-v beside-v (i + 1) j m.result m.new.work m.ensures
 
-pub walk_keys-requires : goal.walk_keys-requires
-walk_keys-requires c =
+pub walk_keys-requires-clause-beside : goal.walk_keys-requires-clause-beside
+walk_keys-requires-clause-beside c =
     let a = c.args in
     let p = a.at in
     let q = a.by in
@@ -77,13 +78,11 @@ walk_keys-requires c =
     let beside-v = step_beside p q a.lo a.n w op bs a.s i k.result v k.ensures q bs in
     let m = c.walk_keys-b in
     let u = m.new.work in
-    let open-u = step_open p q a.lo k.result v open-v beside-v (i + 1) j m.result u m.ensures in
-    let same-u = step_base p q a.lo k.result v open-v beside-v (i + 1) j m.result u m.ensures in
-    let beside-u = step_beside p q a.lo k.result v open-v beside-v (i + 1) j m.result u m.ensures q beside-v in
-    record {
-      fact = open-u;
-      beside = (beside-u, c.requires.beside.2, known_part q (base p u) (base p w) a.s a.e (j + 1) a.e (same-u ∙ same-v) (omega (arith, t.ensures)) (omega arith) c.requires.beside.3);
-    }
+    let same-u = step_base p q a.lo k.result v open-v beside-v (i + 1) j m.result u m.ensures in (
+      step_beside p q a.lo k.result v open-v beside-v (i + 1) j m.result u m.ensures q beside-v,
+      c.requires.beside.2,
+      known_part q (base p u) (base p w) a.s a.e (j + 1) a.e (same-u ∙ same-v) (omega (arith, t.ensures)) (omega arith) c.requires.beside.3,
+    )
 
 pub returns : goal.returns
 returns c =
@@ -103,9 +102,6 @@ returns c =
     let beside-v = step_beside p q a.lo a.n w op bs a.s i k.result v k.ensures q bs in
     let m = c.walk_keys-b in
     let u = m.new.work in
-    let open-u = step_open p q a.lo k.result v open-v beside-v (i + 1) j m.result u m.ensures in
-    let same-u = step_base p q a.lo k.result v open-v beside-v (i + 1) j m.result u m.ensures in
-    let beside-u = step_beside p q a.lo k.result v open-v beside-v (i + 1) j m.result u m.ensures q beside-v in
     let f = c.walk_keys in
     let last = step_keys p q a.lo k.result v open-v beside-v (i + 1) j m.result u m.ensures q (j + 1) a.e f.result f.new.work f.ensures in
     let both = step_more p q a.lo k.result v open-v beside-v (i + 1) j m.result u m.ensures _ f.result f.new.work last in

@@ -4,10 +4,8 @@ use mathlib.Core.List.{List, [], ◌∷◌, ◌++◌}
 use mathlib.Core.Path.{sym, ap, ◌∙◌, subst}
 use native.Mathlib.Omega.{arith}
 use lib.ListN.{get_or}
-use lib.Seq.{length-take-le}
 use Rattle.index.specs.Faces.{input}
 use Rattle.layout.specs.ByCell.{plain_rules}
-use Rattle.layout.specs.Tables.{Spaced}
 use Rattle.partially_shared.specs.Listing.{list_with}
 use Rattle.partially_shared.specs.Hits.{passing, Marked, MarkedMore, Beside}
 use Rattle.partially_shared.proofs.Marking.{spans_is, beside_self, marked_out, marked_kept, marked_in, noted_beside}
@@ -26,11 +24,6 @@ returns-then-work-m-ne0 c =
       beside = (beside_self a.l.marks a.l w, c.requires.f_lt_faces.3);
     }
 
-pub slice_bounds-spans-end-2 : goal.slice_bounds-spans-end-2
-slice_bounds-spans-end-2 c =
-    let p = c.requires.searching.spaced in
-    sym (length-take-le c.args.l.at.found c.args.work.now (omega (arith, p.marks_at, p.others_at, p.last_at, p.pairs_at, p.spare_at, p.ends)))
-
 pub returns-then-not-spans : goal.returns-then-not-spans
 returns-then-not-spans c =
     let a = c.args in
@@ -40,16 +33,6 @@ returns-then-not-spans c =
     let e = c.cell_of-b.ensures in
     let no = sym (spans_is a.coords.now a.tol a.l w a.f a.g c.requires.searching.below) ∙ sym c.spans.ensures ∙ c.if-not-spans.true in
     record { marked_more = λ hits p. marked_out R a.l t a.f a.g hits w a.r p no; beside = (beside_self a.l.marks a.l w, c.requires.f_lt_faces.3) }
-
-pub list_cell-count-requires : goal.list_cell-count-requires
-list_cell-count-requires c =
-    let p = c.requires.searching.spaced in
-    let y = c.mark in
-    record { spaced = subst (Spaced c.args.l) (sym y.auto.work) p; b_bound = c.cell_of-b.ensures.1 }
-
-pub widen-requires : goal.widen-requires
-widen-requires c =
-    let h = c.cell_of-b.ensures.1 in let p = c.requires.searching.spaced.few_cells in omega (arith, h, p)
 
 pub returns : goal.returns
 returns c =

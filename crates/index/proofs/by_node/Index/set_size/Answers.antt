@@ -1,0 +1,7 @@
+-- `index::Index::set_size` meets its contract. The next start less the start is the set's length.
+use Rattle.index.proofs.Read.{set_long}
+use Rattle.index.proofs.by_node.Index.set_size.Goals as goal
+
+pub returns : goal.returns
+returns c =
+    let i = c.args.self.now in set_long i.at i.base.now i.indexed c.args.g c.requires

@@ -1,0 +1,68 @@
+// The faces by node, read.
+ghost use Rattle.std.specs.Prelude.{◌≡◌, ◌+◌, ◌<◌, length};
+ghost use Rattle.counting.specs.Counts.{times};
+ghost use Rattle.index.specs.Once.{once};
+ghost use Rattle.index.specs.Faces.{start_of, words_of, Indexed};
+
+use crate::Places;
+
+// The node sets of the faces and their index, as they stand in `base`.
+#[derive(Clone, Copy)]
+pub struct Index<'a> {
+    pub base: &'a [u32],
+    pub at: Places,
+    pub ghost indexed: { Indexed at base.now } by { Prim.hlevel once },
+}
+
+impl<'a> Index<'a> {
+    ghost use Rattle.index.specs.Read.{input_of, set_of, is_bow};
+
+    // Where the node set of face g starts.
+    pub fn set_start(&self, g: usize) -> usize
+        requires { g < self.now.at.faces }
+        ensures { result ≡ self.now.at.sets + start_of self.now.at (input_of self.now) g }
+    {
+        let at = self.at;
+        at.sets + self.base[at.starts + g] as usize
+    }
+
+    // How many nodes it has.
+    pub fn set_size(&self, g: usize) -> usize
+        requires { g < self.now.at.faces }
+        ensures { result ≡ length (set_of self.now g) }
+    {
+        let k = self.at.starts + g;
+        let a = self.base[k] as usize;
+        let e = self.base[k + 1] as usize;
+        e - a
+    }
+
+    // The node set of face g.
+    pub fn set(&self, g: usize) -> &'a [u32]
+        requires { g < self.now.at.faces }
+        ensures { result.now ≡ set_of self.now g }
+    {
+        let s = self.set_start(g);
+        &self.base[s..s + self.set_size(g)]
+    }
+
+    // The cell of face g is a bow-tie.
+    pub fn bow_at(&self, g: usize) -> bool
+        requires { g < self.now.at.faces }
+        ensures { result ≡ is_bow self.now g }
+    {
+        let c = self.base[self.at.cells + g] as usize;
+        self.base[self.at.bows + c] != 0
+    }
+
+    // How many faces have node v.
+    pub fn list_length(&self, v: usize) -> usize
+        requires { v < self.now.at.nodes }
+        ensures { result ≡ times v (words_of self.now.at (input_of self.now)) }
+    {
+        let k = self.at.offsets + v;
+        let x = self.base[k] as usize;
+        let e = self.base[k + 1] as usize;
+        e - x
+    }
+}
