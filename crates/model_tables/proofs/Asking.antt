@@ -12,12 +12,11 @@ use Rattle.geometry.specs.Coordinates.{node_count, coordinates_off}
 use Rattle.mesh.specs.Model.{Model, Raw}
 use Rattle.mesh.specs.Rings.{nodes_in, rings_of}
 use Rattle.mesh.specs.Acceptance.{model_refusal, work_needed}
-use Rattle.mesh.specs.Steps.{ring_total, ModelCounted}
+use Rattle.mesh.specs.Steps.{ring_total, Tallied}
 use Rattle.mesh.specs.declared.CellTally.{CellTally}
 use Rattle.mesh.proofs.Accepts.{accepts}
 use Rattle.mesh.proofs.CellWords.{words_low}
-use Rattle.faces.specs.Spans.{Sound, rings_in}
-use Rattle.faces.proofs.Rings.{sound_of}
+use Rattle.faces.specs.Spans.{rings_in}
 use Rattle.mesh.proofs.ModelTable.{work_room}
 use Rattle.layout.specs.declared.Layout.{Layout}
 use Rattle.layout.specs.Tables.{Ringed}
@@ -49,8 +48,8 @@ each_in R F C rings rows firsts bows cells keys starts sets offsets n a b c d e 
 
 module _ (m : Model) (ok : model_refusal m ≡ 0) where
   -- the places: no sum wraps
-  pub asks_plan : (t : CellTally) → ModelCounted m t → (t.words < 2 ^ 32) × (t.faces < 2 ^ 32) × (length m.kinds < 2 ^ 32) × (node_count m.coords < 2 ^ 32) × (length m.words < 2 ^ 32)
-  asks_plan t c = let f = few m ok in (c.small, c.few, omega (arith, f.kinds), omega (arith, f.nodes), omega (arith, f.words))
+  pub asks_plan : (f r : ℕ) → Tallied m f r → (r < 2 ^ 32) × (f < 2 ^ 32) × (length m.kinds < 2 ^ 32) × (node_count m.coords < 2 ^ 32) × (length m.words < 2 ^ 32)
+  asks_plan f r t = let k = few m ok in (t.small, t.few, omega (arith, k.kinds), omega (arith, k.nodes), omega (arith, k.words))
 
   -- the welded map: three words a node
   pub asks_weld : (w : List ℕ) → work_needed m ≤ length w → (node_count m.coords ≡ node_count m.coords) × (3 * node_count m.coords ≤ length w) × (node_count m.coords < 2 ^ 32) × (coordinates_off m.coords ≡ false) × AllBelow (node_count m.coords) (nodes_in m.words)
@@ -90,15 +89,14 @@ module _ (m : Model) (ok : model_refusal m ≡ 0) where
     inside = record { bows = tables.3; keys = tables.4; offsets = below_index; pairs = scratch.1 }
 
     -- the rings
-    pub asks_rings : Sound m.kinds m.ends m.words × ((l.rings + ring_total (rings_in m.kinds m.ends m.words) ≤ length w) × (l.rows + (length (rings_in m.kinds m.ends m.words) + 1) ≤ length w) × (l.firsts + (length m.kinds + 1) ≤ length w))
-    asks_rings = (sound_of m ok, (tables.0, tables.1, subst (λ (k : ℕ). l.firsts + (k + 1) ≤ length w) (kinds_are_lem m ok) tables.2))
+    pub asks_rings : (l.rings + ring_total (rings_in m) ≤ length w) × (l.rows + (length (rings_in m) + 1) ≤ length w) × (l.firsts + (length (cells_of m) + 1) ≤ length w)
+    asks_rings = (tables.0, tables.1, tables.2)
 
     -- the marks and the cells of faces
-    pub asks_marks : RingTables m.coords m.tolerance (cells m ok) l w
-        → Sound m.kinds m.ends m.words × Ringed l (take l.at.bows w) × (l.at.bows + l.at.cell_count ≤ length w) × (l.at.nodes ≡ node_count m.coords) × (l.at.cells + length (rings_in m.kinds m.ends m.words) ≤ length w)
+    pub asks_marks : RingTables m.coords m.tolerance (cells m ok) l w → Ringed l (take l.at.bows w) × (l.at.bows + l.at.cell_count ≤ length w) × (l.at.nodes ≡ node_count m.coords) × (l.at.cells + length (rings_in m) ≤ length w)
     asks_marks b =
         let e = within in
-        (sound_of m ok, rings_stand m.coords m.tolerance (cells m ok) (length m.words) K l s w inside.bows b, omega arith, s.planned.many_nodes, omega arith)
+        (rings_stand m.coords m.tolerance (cells m ok) (length m.words) K l s w inside.bows b, omega arith, s.planned.many_nodes, omega arith)
 
     -- the keys and node sets
     pub asks_nodes : Marked m.coords m.tolerance (cells m ok) l w

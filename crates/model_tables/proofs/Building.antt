@@ -12,14 +12,17 @@ use Rattle.laws.specs.Lists.{each, sort}
 use Rattle.laws.specs.Merging.{region, starts_of, AllBelow}
 use Rattle.laws.proofs.Members.{below-distinct}
 use Rattle.geometry.specs.Coordinates.{node_count}
-use Rattle.mesh.specs.Model.{Model, Raw, cells_from, cells_of}
+use Rattle.mesh.specs.Model.{Model, Raw, cells_of}
 use Rattle.mesh.specs.Rings.{nodes_in, rings_of, node_set}
 use Rattle.mesh.specs.Acceptance.{model_refusal, faces_in, work_needed}
-use Rattle.mesh.specs.Steps.{ring_total, ModelCounted}
+use Rattle.mesh.specs.Steps.{ring_total, Tallied}
 use Rattle.mesh.specs.declared.CellTally.{CellTally}
 use Rattle.mesh.proofs.Accepts.{accepts}
 use Rattle.mesh.proofs.NodeNumbers.{cells_below}
-use Rattle.faces.proofs.Rings.{sound_of, faces_are_lem, words_are}
+use Rattle.faces.proofs.Rings.{faces_are_lem, words_are}
+use Rattle.mesh.proofs.WellCells.{well_cells, kept_model}
+use Rattle.laws.specs.Limits.{cell_limit, word_limit}
+use borrow.Author.Tests.{ltb-false}
 use Rattle.welding.specs.Used.{welded_used}
 use Rattle.welding.specs.Steps.{welded_over}
 use Rattle.welding.proofs.Used.{used-words, welds_words}
@@ -93,7 +96,7 @@ module _ (coords : List Float) (tol : Float) (cells : List Raw) (M K : ℕ) (l :
 module _ (m : Model) (ok : model_refusal m ≡ 0) where
   -- the model's cells, their rings, and how many words it has
   abbrev pub cells : List Raw
-  cells = cells_from 0 m.kinds m.ends m.words
+  cells = cells_of m
 
   abbrev rs : List (List ℕ)
   rs = each rings_of cells
@@ -103,7 +106,6 @@ module _ (m : Model) (ok : model_refusal m ≡ 0) where
 
   -- as many cells as kinds
   pub kinds_are_lem : length cells ≡ length m.kinds
-  unfolding cells_of
   kinds_are_lem = cells_count m (accepts m ok)
 
   -- at most so many cells, words, nodes, faces and ring words
@@ -117,37 +119,38 @@ module _ (m : Model) (ok : model_refusal m ≡ 0) where
   -- an accepted model has few of all
   pub few : Few
   few =
-      let z = sound_of m ok in
+      let a = accepts m ok in
+      let k = kept_model m ok in
+      let kinds : length m.kinds ≤ 16384 = ltb-false cell_limit (length m.kinds) a.cells in
+      let words : length m.words ≤ 262144 = ltb-false word_limit (length m.words) a.words in
       record {
-        kinds = z.few;
-        words = z.small;
-        nodes = few_nodes m (accepts m ok);
-        rings = sized_many rs (sized_cells cells z.well);
-        total = omega (arith, z.few, z.small, cells_small 0 m.kinds m.ends m.words z.well);
+        kinds = kinds;
+        words = words;
+        nodes = few_nodes m a;
+        rings = sized_many rs (sized_cells cells (well_cells cells k.well));
+        total = omega (arith, kinds, words, kinds_are_lem, ap length (cells_words m a), cells_small cells (well_cells cells k.well));
       }
 
   -- the map over the nodes that the words name is that of the cells
   pub welds_are : welded_over m.coords m.tolerance m.words ≡ welded_used m.coords m.tolerance cells
-  unfolding cells_of
   welds_are = welds_words m (accepts m ok)
 
   -- what the acceptance counted
-  pub counts_are : (t : CellTally) → ModelCounted m t → (t.words ≡ ring_total rs) × (t.faces ≡ length rs)
-  counts_are t c = let z = c.refusal ∙ ok in (c.words z ∙ words_are m, c.faces z ∙ faces_are_lem m)
+  pub counts_are : (f r : ℕ) → Tallied m f r → (r ≡ ring_total rs) × (f ≡ length rs)
+  counts_are f r t = (t.words ∙ words_are m, t.faces ∙ faces_are_lem m)
 
   -- the places are those of the model's tables
-  pub settled : (t : CellTally) → ModelCounted m t → (K : ℕ) (l : Layout) → Planned t.words t.faces (length m.kinds) (node_count m.coords) M K l → Settled m.coords cells M K l
-  unfolding cells_of
-  settled t c K l p =
-      let e = counts_are t c in
+  pub settled : (f r : ℕ) → Tallied m f r → (K : ℕ) (l : Layout) → Planned r f (length m.kinds) (node_count m.coords) M K l → Settled m.coords cells M K l
+  settled f r t K l p =
+      let e = counts_are f r t in
       let n = node_count m.coords in
       record {
-        well = (sound_of m ok).well;
+        well = well_cells cells (kept_model m ok).well;
         below = cells_below n cells (accepts m ok).right;
         used = subst (AllBelow n) (sym (used-words m (accepts m ok))) (below-distinct n (nodes_in m.words) (words_low m (accepts m ok)));
         planned =
             subst (λ (i : ℕ). Planned (ring_total rs) (length rs) i n M K l) (sym kinds_are_lem)
-            (subst (λ (i : ℕ). Planned (ring_total rs) i (length m.kinds) n M K l) e.1 (subst (λ (i : ℕ). Planned i t.faces (length m.kinds) n M K l) e.0 p));
+            (subst (λ (i : ℕ). Planned (ring_total rs) i (length m.kinds) n M K l) e.1 (subst (λ (i : ℕ). Planned i f (length m.kinds) n M K l) e.0 p));
       }
 
   module _ (K : ℕ) (l : Layout) (s : Settled m.coords cells M K l) where

@@ -1,17 +1,18 @@
 // All tables of an accepted model, laid out and filled in the lent work slice.
 #![tactic(auto)]
 
-ghost use Rattle.std.specs.Prelude.{◌≡◌, false, map, ◌+◌, ◌*◌, ◌≤◌, ◌<◌, ◌^◌, length, take, replicate};
+ghost use Rattle.std.specs.Prelude.{◌≡◌, map, ◌+◌, ◌*◌, ◌≤◌, ◌<◌, ◌^◌, length, take, replicate};
 ghost use Rattle.std.proofs.lemmas.List.Edits.{sets};
 ghost use Rattle.laws.specs.Lists.{each, up_from};
-ghost use Rattle.laws.specs.Merging.{region, starts_of, AllBelow};
-ghost use Rattle.geometry.specs.Coordinates.{node_count, coordinates_off};
-ghost use Rattle.mesh.specs.Model.{cells_from, model_of};
-ghost use Rattle.mesh.specs.Rings.{nodes_in, rings_of};
-ghost use Rattle.mesh.specs.Acceptance.{model_refusal, work_needed};
-ghost use Rattle.mesh.specs.Steps.{ring_total, ModelCounted};
-ghost use Rattle.faces.specs.Spans.{Sound, rings_in};
-ghost use Rattle.welding.specs.Steps.{welded_over};
+ghost use Rattle.laws.specs.Merging.{region, starts_of};
+ghost use Rattle.geometry.specs.Coordinates.{node_count};
+ghost use Rattle.mesh.specs.Lent.{lent};
+ghost use Rattle.mesh.specs.Model.{cells_of};
+ghost use Rattle.mesh.specs.Rings.{rings_of};
+ghost use Rattle.mesh.specs.Acceptance.{work_needed};
+ghost use Rattle.mesh.specs.Steps.{ring_total};
+ghost use Rattle.faces.specs.Spans.{rings_in};
+ghost use Rattle.welding.specs.Used.{welds_of};
 ghost use Rattle.layout.specs.Tables.{Ringed};
 ghost use Rattle.layout.specs.ByCell.{cell_bow, bit};
 ghost use Rattle.layout.specs.Shown.{Built};
@@ -20,6 +21,7 @@ ghost use Rattle.tables.specs.Owners.{owners_from};
 ghost use Rattle.model_tables.specs.Planned.{Searched, Planned};
 
 use layout::Layout;
+use mesh::Accepted;
 
 // Where the regions of the scratch start.
 #[derive(Clone, Copy)]
@@ -111,55 +113,38 @@ fn plan(r: usize, f: usize, c: usize, n: usize, m: usize, k: usize) -> Layout
     }
 }
 
-// Copies the n words from a on, behind the first n, to the front.
-fn copy_front(work: &mut [u32], a: usize, n: usize)
-    requires { (n ≤ a) × (a + n ≤ length work.old) }
-    ensures { work.new ≡ sets work.old 0 (region a n work.old) }
+// The welded numbers of all nodes go to the front.
+fn put_weld(model: &Accepted, work: &mut [u32])
+    requires { 3 * node_count model.now.model.coords.now ≤ length work.old }
+    ensures { region 0 (node_count model.now.model.coords.now) work.new ≡ welds_of (lent model.now.model) }
 {
-    let mut i = 0;
-    while i < n {
-        work[i] = work[a + i];
-        i += 1;
-    }
-}
-
-// The welded numbers of all n nodes go to the front: the nodes that the words name are welded.
-fn put_weld(coords: &[f64], words: &[u32], tol: f64, work: &mut [u32], n: usize)
-    requires { (n ≡ node_count coords.now) × (3 * n ≤ length work.old) × (n < 2 ^ 32) × (coordinates_off coords.now ≡ false) × AllBelow n (nodes_in words.now) }
-    ensures { region 0 n work.new ≡ welded_over coords.now tol words.now }
-{
-    welding::weld_named(coords, words, tol, work, n);
-    copy_front(work, n + n, n);
+    let m = model.model;
+    let n = m.node_count();
+    welding::weld_named(m.coords, m.words, m.tolerance, work, n);
+    work.copy_within(n + n..n + n + n, 0);
 }
 
 // The rings of all cells, where each ring starts, and the first face of each cell.
-fn put_rings(kinds: &[u8], ends: &[u32], words: &[u32], work: &mut [u32], l: Layout)
-    requires sound { Sound kinds.now ends.now words.now }
-    requires words_in_bounds { (l.rings + ring_total (rings_in kinds.now ends.now words.now) ≤ length work.old) × (l.rows + (length (rings_in kinds.now ends.now words.now) + 1) ≤ length work.old) × (l.firsts + (length kinds.now + 1) ≤ length work.old) }
-    ensures { work.new ≡ sets (sets (sets work.old l.rings (each (λ r. r) (rings_in kinds.now ends.now words.now))) l.rows (starts_of 0 (rings_in kinds.now ends.now words.now))) l.firsts (starts_of 0 (map rings_of (cells_from 0 kinds.now ends.now words.now))) }
+fn put_rings(model: &Accepted, work: &mut [u32], l: Layout)
+    requires rings_in_bounds { l.rings + ring_total (rings_in (lent model.now.model)) ≤ length work.old }
+    requires rows_in_bounds { l.rows + (length (rings_in (lent model.now.model)) + 1) ≤ length work.old }
+    requires firsts_in_bounds { l.firsts + (length (cells_of (lent model.now.model)) + 1) ≤ length work.old }
+    ensures { work.new ≡ sets (sets (sets work.old l.rings (each (λ r. r) (rings_in (lent model.now.model)))) l.rows (starts_of 0 (rings_in (lent model.now.model)))) l.firsts (starts_of 0 (map rings_of (cells_of (lent model.now.model)))) }
 {
-    rings::put_cells(kinds, ends, words, work, l.rings);
-    tables::put_rows(kinds, ends, words, work, l.rows);
-    tables::put_firsts(kinds, ends, words, work, l.firsts);
+    rings::put_cells(model, work, l.rings);
+    tables::put_rows(model, work, l.rows);
+    tables::put_firsts(model, work, l.firsts);
 }
 
 // The marks of bow-ties, and the cell of each face.
-fn put_marks(
-    coords: &[f64],
-    kinds: &[u8],
-    ends: &[u32],
-    words: &[u32],
-    tol: f64,
-    work: &mut [u32],
-    l: Layout,
-)
-    requires { Sound kinds.now ends.now words.now × Ringed l (take l.at.bows work.old) × (l.at.bows + l.at.cell_count ≤ length work.old) × (l.at.nodes ≡ node_count coords.now) × (l.at.cells + length (rings_in kinds.now ends.now words.now) ≤ length work.old) }
-    ensures { work.new ≡ sets (sets work.old l.at.bows (map (λ c. bit (cell_bow coords.now tol l (take l.at.bows work.old) c)) (up_from 0 l.at.cell_count))) l.at.cells (owners_from 0 (cells_from 0 kinds.now ends.now words.now)) }
+fn put_marks(model: &Accepted, work: &mut [u32], l: Layout)
+    requires ringed { Ringed l (take l.at.bows work.old) }
+    requires bows_in_bounds { (l.at.bows + l.at.cell_count ≤ length work.old) × (l.at.nodes ≡ node_count model.now.model.coords.now) }
+    requires cells_in_bounds { l.at.cells + length (rings_in (lent model.now.model)) ≤ length work.old }
+    ensures { work.new ≡ sets (sets work.old l.at.bows (map (λ c. bit (cell_bow model.now.model.coords.now model.now.model.tolerance l (take l.at.bows work.old) c)) (up_from 0 l.at.cell_count))) l.at.cells (owners_from 0 (cells_of (lent model.now.model))) }
 {
-    let p = l.at;
-    let cells = p.cells;
-    bow_cells::put_bows(coords, tol, work, l);
-    tables::put_owners(kinds, ends, words, work, cells);
+    bow_cells::put_bows(model.model.coords, model.model.tolerance, work, l);
+    tables::put_owners(model, work, l.at.cells);
 }
 
 // The keys and node sets of all faces; answers how many words the sets have.
@@ -176,33 +161,23 @@ fn clear_scratch(work: &mut [u32], l: Layout)
     requires { (l.marks + l.at.cell_count ≤ length work.old) × (l.last + l.at.nodes ≤ length work.old) }
     ensures { work.new ≡ sets (sets work.old l.marks (replicate l.at.cell_count 0)) l.last (replicate l.at.nodes 0) }
 {
-    let p = l.at;
-    snap::clear(work, l.marks, p.cell_count);
-    snap::clear(work, l.last, p.nodes);
+    snap::clear(work, l.marks, l.at.cell_count);
+    snap::clear(work, l.last, l.at.nodes);
 }
 
-// Lays out and fills all tables of an accepted model; t is what its acceptance counted.
-pub fn build_tables(
-    coords: &[f64],
-    kinds: &[u8],
-    ends: &[u32],
-    words: &[u32],
-    tol: f64,
-    checks: mesh::Checks,
-    work: &mut [u32],
-    t: mesh::CellTally,
-) -> Layout
-    requires checks_value { model_refusal (model_of coords.now kinds.now ends.now words.now tol checks.0 0) ≡ 0 }
-    requires model_counted { ModelCounted (model_of coords.now kinds.now ends.now words.now tol checks.0 0) t }
-    requires checks_in_bounds { work_needed (model_of coords.now kinds.now ends.now words.now tol checks.0 0) ≤ length work.old }
-    ensures { Built (model_of coords.now kinds.now ends.now words.now tol checks.0 0) result work.new }
+// Lays out and fills all tables of an accepted model.
+pub fn build_tables(model: &Accepted, work: &mut [u32]) -> Layout
+    requires { work_needed (lent model.now.model) ≤ length work.old }
+    ensures { Built (lent model.now.model) result work.new }
 {
-    let n = coords.len() / 3;
-    let l = plan(t.words, t.faces, kinds.len(), n, words.len(), 0);
-    put_weld(coords, words, tol, work, n);
-    put_rings(kinds, ends, words, work, l);
-    put_marks(coords, kinds, ends, words, tol, work, l);
+    let m = model.model;
+    let cells = m.kinds.len();
+    let nodes = m.node_count();
+    let l = plan(model.ring_words, model.faces, cells, nodes, m.words.len(), 0);
+    put_weld(model, work);
+    put_rings(model, work, l);
+    put_marks(model, work, l);
     let k = put_nodes(work, l);
     clear_scratch(work, l);
-    plan(t.words, t.faces, kinds.len(), n, words.len(), k)
+    plan(model.ring_words, model.faces, cells, nodes, m.words.len(), k)
 }

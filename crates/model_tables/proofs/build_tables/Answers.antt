@@ -3,11 +3,11 @@ use Prim.Native.Nat.{ℕ, ◌≤◌}
 use mathlib.Core.Path.{◌≡◌, ap, ◌∙◌}
 use native.Mathlib.Omega.{arith}
 use lib.ListN.{length, take}
-use Rattle.mesh.specs.Model.{model_of}
+use Rattle.mesh.specs.Lent.{lent}
 use Rattle.mesh.specs.Steps.{ring_total}
 use Rattle.model_tables.proofs.Ringing.{sets_are}
 use Rattle.model_tables.proofs.Stages.{rings_part, rings_put, marks_put, nodes_put}
-use Rattle.model_tables.proofs.Building.{cells, welds_are, settled, zeros_put, placed_again, built}
+use Rattle.model_tables.proofs.Building.{cells, settled, zeros_put, placed_again, built}
 use Rattle.model_tables.proofs.Asking.{asks_plan, asks_weld, inside, asks_rings, asks_marks, asks_nodes, asks_zeros}
 use Rattle.model_tables.proofs.build_tables.Goals as goal
 
@@ -19,67 +19,72 @@ kept e h = omega arith
 
 pub plan-l-requires : goal.plan-l-requires
 plan-l-requires c =
-    let m = model_of c.args.coords.now c.args.kinds.now c.args.ends.now c.args.words.now c.args.tol c.args.checks.0 0 in
-    let ok = c.requires.checks_value in
-    asks_plan m ok c.args.t c.requires.model_counted
+    let s = c.args.model.now in
+    let m = lent s.model in
+    let ok = s.accepted in
+    asks_plan m ok s.faces s.ring_words s.tallied
 
 pub put_weld-requires : goal.put_weld-requires
 put_weld-requires c =
-    let m = model_of c.args.coords.now c.args.kinds.now c.args.ends.now c.args.words.now c.args.tol c.args.checks.0 0 in
-    let ok = c.requires.checks_value in
-    asks_weld m ok c.args.work.now c.requires.checks_in_bounds
+    let s = c.args.model.now in
+    le_trans (work_room (lent s.model)) c.requires
 
 pub put_rings-requires : goal.put_rings-requires
 put_rings-requires c =
-    let m = model_of c.args.coords.now c.args.kinds.now c.args.ends.now c.args.words.now c.args.tol c.args.checks.0 0 in
-    let ok = c.requires.checks_value in
+    let s = c.args.model.now in
+    let m = lent s.model in
+    let ok = s.accepted in
     let l = c.plan-l.result in
-    let z = settled m ok c.args.t c.requires.model_counted 0 l c.plan-l.ensures in
+    let z = settled m ok s.faces s.ring_words s.tallied 0 l c.plan-l.ensures in
     let a = c.put_weld.new.work in
-    let in_a = kept c.put_weld.auto.work c.requires.checks_in_bounds in
+    let in_a = kept c.put_weld.auto.work c.requires in
     let asked = asks_rings m ok 0 l z a in_a in
-    record { sound = asked.0; words_in_bounds = asked.1 }
+    record { rings_in_bounds = asked.0; rows_in_bounds = asked.1; firsts_in_bounds = asked.2 }
 
 pub put_marks-requires : goal.put_marks-requires
 put_marks-requires c =
-    let m = model_of c.args.coords.now c.args.kinds.now c.args.ends.now c.args.words.now c.args.tol c.args.checks.0 0 in
-    let ok = c.requires.checks_value in
+    let s = c.args.model.now in
+    let m = lent s.model in
+    let ok = s.accepted in
     let l = c.plan-l.result in
-    let z = settled m ok c.args.t c.requires.model_counted 0 l c.plan-l.ensures in
+    let z = settled m ok s.faces s.ring_words s.tallied 0 l c.plan-l.ensures in
     let a = c.put_weld.new.work in
-    let in_a = kept c.put_weld.auto.work c.requires.checks_in_bounds in
+    let in_a = kept c.put_weld.auto.work c.requires in
     let b = c.put_rings.new.work in
     let in_b = kept c.put_rings.auto.work in_a in
     let rings =
-    rings_put m.coords m.tolerance (cells m ok) (length m.words) 0 l z a b (inside m ok 0 l z a in_a).bows (c.put_weld.ensures ∙ welds_are m ok)
+    rings_put m.coords m.tolerance (cells m ok) (length m.words) 0 l z a b (inside m ok 0 l z a in_a).bows c.put_weld.ensures
     c.put_rings.ensures in
-    asks_marks m ok 0 l z b in_b rings
+    let asked = asks_marks m ok 0 l z b in_b rings in
+    record { ringed = asked.0; bows_in_bounds = (asked.1, asked.2); cells_in_bounds = asked.3 }
 
 pub put_nodes-k-requires : goal.put_nodes-k-requires
 put_nodes-k-requires c =
-    let m = model_of c.args.coords.now c.args.kinds.now c.args.ends.now c.args.words.now c.args.tol c.args.checks.0 0 in
-    let ok = c.requires.checks_value in
+    let s = c.args.model.now in
+    let m = lent s.model in
+    let ok = s.accepted in
     let l = c.plan-l.result in
-    let z = settled m ok c.args.t c.requires.model_counted 0 l c.plan-l.ensures in
+    let z = settled m ok s.faces s.ring_words s.tallied 0 l c.plan-l.ensures in
     let a = c.put_weld.new.work in
-    let in_a = kept c.put_weld.auto.work c.requires.checks_in_bounds in
+    let in_a = kept c.put_weld.auto.work c.requires in
     let b = c.put_rings.new.work in
     let in_b = kept c.put_rings.auto.work in_a in
     let d = c.put_marks.new.work in
     let in_d = kept c.put_marks.auto.work in_b in
     let rings =
-    rings_put m.coords m.tolerance (cells m ok) (length m.words) 0 l z a b (inside m ok 0 l z a in_a).bows (c.put_weld.ensures ∙ welds_are m ok)
+    rings_put m.coords m.tolerance (cells m ok) (length m.words) 0 l z a b (inside m ok 0 l z a in_a).bows c.put_weld.ensures
     c.put_rings.ensures in
     let marked = marks_put m.coords m.tolerance (cells m ok) (length m.words) 0 l z b d (inside m ok 0 l z b in_b).keys rings c.put_marks.ensures in
     asks_nodes m ok 0 l z d in_d marked
 
 pub clear_scratch-requires : goal.clear_scratch-requires
 clear_scratch-requires c =
-    let m = model_of c.args.coords.now c.args.kinds.now c.args.ends.now c.args.words.now c.args.tol c.args.checks.0 0 in
-    let ok = c.requires.checks_value in
+    let s = c.args.model.now in
+    let m = lent s.model in
+    let ok = s.accepted in
     let l = c.plan-l.result in
-    let z = settled m ok c.args.t c.requires.model_counted 0 l c.plan-l.ensures in
-    let in_a = kept c.put_weld.auto.work c.requires.checks_in_bounds in
+    let z = settled m ok s.faces s.ring_words s.tallied 0 l c.plan-l.ensures in
+    let in_a = kept c.put_weld.auto.work c.requires in
     let in_b = kept c.put_rings.auto.work in_a in
     let in_d = kept c.put_marks.auto.work in_b in
     let e = c.put_nodes-k.new.work in
@@ -88,23 +93,22 @@ clear_scratch-requires c =
 
 pub plan-requires : goal.plan-requires
 plan-requires c =
-    let m = model_of c.args.coords.now c.args.kinds.now c.args.ends.now c.args.words.now c.args.tol c.args.checks.0 0 in
-    let ok = c.requires.checks_value in
-    asks_plan m ok c.args.t c.requires.model_counted
-
-pub shape_of-work : goal.shape_of-work
-shape_of-work c = c.clear_scratch.auto.work ∙ c.put_nodes-k.auto.work ∙ c.put_marks.auto.work ∙ c.put_rings.auto.work ∙ c.put_weld.auto.work
+    let s = c.args.model.now in
+    let m = lent s.model in
+    let ok = s.accepted in
+    asks_plan m ok s.faces s.ring_words s.tallied
 
 -- ---- what is built
 
 pub returns : goal.returns
 returns c =
-    let m = model_of c.args.coords.now c.args.kinds.now c.args.ends.now c.args.words.now c.args.tol c.args.checks.0 0 in
-    let ok = c.requires.checks_value in
+    let s = c.args.model.now in
+    let m = lent s.model in
+    let ok = s.accepted in
     let l = c.plan-l.result in
-    let z = settled m ok c.args.t c.requires.model_counted 0 l c.plan-l.ensures in
+    let z = settled m ok s.faces s.ring_words s.tallied 0 l c.plan-l.ensures in
     let a = c.put_weld.new.work in
-    let in_a = kept c.put_weld.auto.work c.requires.checks_in_bounds in
+    let in_a = kept c.put_weld.auto.work c.requires in
     let b = c.put_rings.new.work in
     let in_b = kept c.put_rings.auto.work in_a in
     let d = c.put_marks.new.work in
@@ -114,13 +118,13 @@ returns c =
     let f = c.clear_scratch.new.work in
     let in_f = kept c.clear_scratch.auto.work in_e in
     let rings =
-    rings_put m.coords m.tolerance (cells m ok) (length m.words) 0 l z a b (inside m ok 0 l z a in_a).bows (c.put_weld.ensures ∙ welds_are m ok)
+    rings_put m.coords m.tolerance (cells m ok) (length m.words) 0 l z a b (inside m ok 0 l z a in_a).bows c.put_weld.ensures
     c.put_rings.ensures in
     let marked = marks_put m.coords m.tolerance (cells m ok) (length m.words) 0 l z b d (inside m ok 0 l z b in_b).keys rings c.put_marks.ensures in
     let tabled = nodes_put m.coords m.tolerance (cells m ok) (length m.words) 0 l z d e (inside m ok 0 l z d in_d).offsets marked c.put_nodes-k.ensures.1 in
     let cleared = zeros_put m.coords m.tolerance (cells m ok) (length m.words) 0 l z e f (inside m ok 0 l z e in_e).pairs tabled c.clear_scratch.ensures in
     let K = c.put_nodes-k.result in
-    let q = settled m ok c.args.t c.requires.model_counted K c.plan.result c.plan.ensures in
+    let q = settled m ok s.faces s.ring_words s.tallied K c.plan.result c.plan.ensures in
     let part = rings_part m.coords m.tolerance (cells m ok) (length m.words) 0 l z d l.at.bows (omega arith) marked.rings in
     let size = c.put_nodes-k.ensures.0 ∙ ap ring_total (sets_are m.coords m.tolerance (cells m ok) (length m.words) 0 l (take l.at.bows d) z part) in
     built m ok K c.plan.result q f in_f (placed_again m.coords m.tolerance (cells m ok) (length m.words) 0 l z K c.plan.result q f cleared) size

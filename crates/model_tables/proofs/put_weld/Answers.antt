@@ -1,12 +1,28 @@
--- `model_tables::put_weld` meets its contract: what stood behind the scratch stands in front.
-use Prim.Native.Nat.{◌+◌}
-use mathlib.Core.Path.{◌∙◌}
+-- What stood behind the scratch stands in front.
+use Prim.Native.Nat.{ℕ, ◌+◌, ◌≤◌}
+use mathlib.Core.Path.{◌≡◌, sym, ◌∙◌, subst}
 use native.Mathlib.Omega.{arith}
+use Rattle.laws.specs.Limits.{node_limit}
+use Rattle.laws.specs.Merging.{AllBelow, region}
+use Rattle.geometry.specs.Coordinates.{node_count}
+use Rattle.sorting.proofs.Copied as Slice
+use Rattle.mesh.specs.Lent.{lent}
+use Rattle.mesh.specs.Rings.{nodes_in}
+use Rattle.mesh.proofs.Accepts.{accepts}
+use Rattle.mesh.proofs.CellWords.{words_low, few_nodes}
+use Rattle.welding.specs.Used.{welds_of}
+use Rattle.welding.proofs.Used.{welds_words}
 use Rattle.model_tables.proofs.Reading.{copied}
 use Rattle.model_tables.proofs.put_weld.Goals as goal
 
+pub weld_named-requires : goal.weld_named-requires
+weld_named-requires c =
+    let s = c.args.model.now in
+    let m = lent s.model in
+    let h = accepts m s.accepted in
+    let few : node_count m.coords ≤ node_limit = few_nodes m h in
+    let e = c.node_count-n.ensures in
+    (e, omega (arith, c.requires, e), omega (arith, e), h.places, subst (λ (n : ℕ). AllBelow n (nodes_in m.words)) (sym e) (words_low m h))
+
 pub returns : goal.returns
-returns c =
-    let w = c.weld_named in
-    let n = c.args.n in
-    copied _ _ (n + n) n (omega (arith, w.auto.work, c.requires.1)) c.copy_front.ensures ∙ w.ensures.0
+returns c = ?
