@@ -13,6 +13,7 @@ ghost use Rattle.layout.specs.ByCell.{plain_rules, bow_cell, over_cell, partly_c
 ghost use Rattle.layout.specs.Kept.{KeptAny};
 ghost use Rattle.all_cells.specs.Cells.{CellsIn, repeat_in, KeptEver};
 
+use mesh::Model;
 use records::{Kind, Record, Sink};
 
 // The bow-tie of cell c, where it is one.
@@ -101,25 +102,18 @@ pub fn keep_pairs(
 }
 
 // 4, repeated nodes.
-pub fn keep_repeats(
-    coords: &[f64],
-    kinds: &[u8],
-    ends: &[u32],
-    words: &[u32],
-    work: &mut [u32],
-    l: layout::Layout,
-    sink: &mut Sink<'_>,
-)
+pub fn keep_repeats(model: &Model, work: &mut [u32], l: layout::Layout, sink: &mut Sink<'_>)
     requires standing { Standing l work.old }
-    requires nodes_value { (l.at.nodes ≡ node_count coords.now) × CellsIn l kinds.now ends.now words.now }
+    requires nodes_value { (l.at.nodes ≡ node_count model.now.coords.now) × CellsIn l model.now.kinds.now model.now.ends.now model.now.words.now }
     requires few { sink.old.count ≤ 2 ^ 50 }
-    ensures kept_any { KeptAny coords.now (each (repeat_in l (input l.at work.old) kinds.now ends.now words.now) (up_from 0 l.at.cell_count)) sink.old sink.new }
+    ensures kept_any { KeptAny model.now.coords.now (each (repeat_in l (input l.at work.old) model.now.kinds.now model.now.ends.now model.now.words.now) (up_from 0 l.at.cell_count)) sink.old sink.new }
     ensures upper_bound { (sink.new.count ≤ sink.old.count + 2 ^ 40) × Still l work.old work.new }
 {
+    let m = *model;
     let mut from = 0;
     for c in 0..l.at.cell_count {
-        let e = ends[c] as usize;
-        repeated_nodes::keep_repeated(coords, &words[from..e], work, l, c, sink);
+        let e = m.ends[c] as usize;
+        repeated_nodes::keep_repeated(m.coords, &m.words[from..e], work, l, c, sink);
         from = e;
     }
 }

@@ -4,111 +4,64 @@
 
 ghost use Rattle.std.specs.Prelude.{◌≡◌, ◌^◌, ◌≤◌, ◌<◌, length, take};
 ghost use Rattle.std.proofs.lemmas.List.Edits.{sets};
-ghost use Rattle.mesh.specs.Model.{Model, model_of};
-ghost use Rattle.mesh.specs.Acceptance.{model_refusal, faces_in, work_needed};
-ghost use Rattle.mesh.specs.Steps.{ModelCounted};
-ghost use Rattle.mesh.specs.declared.Counted.TheVariants.{Refused};
+ghost use Rattle.mesh.specs.Lent.{lent};
+ghost use Rattle.mesh.specs.Acceptance.{faces_in, work_needed};
 ghost use Rattle.seek.specs.Candidates.{found_in, went_by_nodes};
 ghost use Rattle.candidates.specs.Seeking.{candidates_of, Seeking};
 
-use mesh::Counted;
+use mesh::{Accepted, Model};
+use refusals::Refusal;
 
-// What seeking the candidates of a face answers, and by which way it was sought.
+// How many candidates a face has, and by which way they were sought.
 #[derive(Clone, Copy)]
 pub struct SoughtFace {
-    pub answer: Counted,
+    pub count: u32,
     pub tally: seek::Tally,
 }
 
-// A refusal: nothing was sought.
-fn refused(n: u8) -> SoughtFace
-    ensures { (result.answer ≡ Refused n) × (result.tally.nodes ≡ 0) × (result.tally.triples ≡ 0) }
-{
-    let tally = seek::unsought();
-    SoughtFace {
-        answer: Counted::Refused(n),
-        tally: tally,
-    }
-}
-
-// The candidates of a face of an accepted model, as many as fit; answers how many there are, and the way. t is what its acceptance counted.
+// The candidates of a face of an accepted model, as many as fit; answers how many there are, and the way.
 fn seek_into(
-    coords: &[f64],
-    kinds: &[u8],
-    ends: &[u32],
-    words: &[u32],
-    tol: f64,
-    checks: mesh::Checks,
+    model: &Accepted,
     face: usize,
     by_nodes: bool,
     found: &mut [u32],
     work: &mut [u32],
-    t: mesh::CellTally,
 ) -> seek::Searched
-    ghost m: { Model }
-    requires checks_value { model_of coords.now kinds.now ends.now words.now tol checks.0 0 ≡ m }
-    requires m_value { (model_refusal m ≡ 0) × ModelCounted m t × (work_needed m ≤ length work.old) }
-    requires face_in_bounds { face < length (faces_in m) }
-    ensures result_value { (found_in result ≡ length (candidates_of m face)) × (found_in result < 2 ^ 32) × (went_by_nodes result ≡ by_nodes) }
-    ensures found_after { found.new ≡ sets found.old 0 (take (length found.old) (candidates_of m face)) }
+    requires room { work_needed (lent model.now.model) ≤ length work.old }
+    requires face_in_bounds { face < length (faces_in (lent model.now.model)) }
+    ensures result_value { (found_in result ≡ length (candidates_of (lent model.now.model) face)) × (found_in result < 2 ^ 32) × (went_by_nodes result ≡ by_nodes) }
+    ensures found_after { found.new ≡ sets found.old 0 (take (length found.old) (candidates_of (lent model.now.model) face)) }
 {
-    let l = model_tables::build_tables(coords, kinds, ends, words, tol, checks, work, t);
-    let s = indexes::index_faces(work, l);
-    let at = l.at;
-    let by = s.by;
-    let c = pairs::candidates_of(work, at, by, face, 0, by_nodes);
-    let n = c.count();
-    let k = counting::lesser(n, found.len());
-    let from = at.found;
-    let to = from + k;
-    rings::put_words(&work[from..to], found, 0);
+    let l = model_tables::build_tables(model, work);
+    let by = indexes::index_faces(work, l).by;
+    let c = pairs::candidates_of(work, l.at, by, face, 0, by_nodes);
+    let k = c.count().min(found.len());
+    found[..k].copy_from_slice(&work[l.at.found..l.at.found + k]);
     c
 }
 
 // The candidates of a face, sought by common nodes or by node triples: as many as fit, and the whole count.
 pub fn face_candidates(
-    coords: &[f64],
-    kinds: &[u8],
-    ends: &[u32],
-    words: &[u32],
-    tol: f64,
-    checks: mesh::Checks,
+    model: &Model,
     face: usize,
     by_nodes: bool,
     found: &mut [u32],
     work: &mut [u32],
-) -> SoughtFace
-    ensures { Seeking by_nodes (model_of coords.now kinds.now ends.now words.now tol checks.0 0) face found.old found.new work.old work.new result }
+) -> Result<SoughtFace, Refusal>
+    ensures { Seeking by_nodes (lent model.now) face found.old found.new work.old work.new result }
 {
-    let t = mesh::accept(coords, kinds, ends, words, tol, checks);
-    if t.refusal != 0 {
-        return refused(t.refusal);
-    }
-    let need = mesh::work_needed(t, kinds.len(), coords.len() / 3, words.len());
+    let m = mesh::accept(model)?;
+    let need = m.work_needed();
     if work.len() < need {
-        return refused(11);
+        return Err(Refusal::Work);
     }
-    if t.faces <= face {
-        return refused(12);
+    if m.faces <= face {
+        return Err(Refusal::Number);
     }
-    let searched = seek_into(
-        coords,
-        kinds,
-        ends,
-        words,
-        tol,
-        checks,
-        face,
-        by_nodes,
-        found,
-        &mut work[0..need],
-        t,
-    );
-    snap::clear(work, 0, need);
-    let n = searched.count();
-    let tally = searched.tallied(seek::unsought());
-    SoughtFace {
-        answer: Counted::Count(n as u32),
-        tally: tally,
-    }
+    let searched = seek_into(&m, face, by_nodes, found, &mut work[..need]);
+    work[..need].fill(0);
+    Ok(SoughtFace {
+        count: searched.count() as u32,
+        tally: searched.tallied(seek::unsought()),
+    })
 }

@@ -2,9 +2,8 @@
 #![tactic(auto)]
 
 ghost use Rattle.std.specs.Prelude.{◌≡◌, ◌+◌, ◌^◌, ◌≤◌, length};
-ghost use Rattle.mesh.specs.Model.{Model, model_of};
-ghost use Rattle.mesh.specs.Acceptance.{model_refusal, faces_in, work_needed};
-ghost use Rattle.mesh.specs.Steps.{ModelCounted};
+ghost use Rattle.mesh.specs.Lent.{lent};
+ghost use Rattle.mesh.specs.Acceptance.{faces_in, work_needed};
 ghost use Rattle.findings.specs.Rules.{full_of};
 ghost use Rattle.index.specs.Faces.{input};
 ghost use Rattle.seek.specs.Candidates.{Tallied};
@@ -13,6 +12,7 @@ ghost use Rattle.all_cells.specs.Cells.{KeptEver};
 ghost use Rattle.full_list.specs.Ways.{taken, goes_by_nodes};
 ghost use Rattle.full_list.specs.Found.{Ready, topology_of, butterflies_in, KeptBy, FoundIn, sought_in};
 
+use mesh::{Accepted, Checks};
 use records::Sink;
 use seek::Tally;
 
@@ -45,13 +45,13 @@ impl Choice {
 }
 
 // Kind 1, where the flags ask for it.
-fn find_butterflies(checks: mesh::Checks, work: &[u32], l: layout::Layout, sink: &mut Sink<'_>)
+fn find_butterflies(checks: Checks, work: &[u32], l: layout::Layout, sink: &mut Sink<'_>)
     requires faced { Faced l (input l.at work.now) }
     requires cell_count_bound { (l.at.cell_count ≤ 2 ^ 18) × (sink.old.count ≤ 2 ^ 40) }
     ensures kept_ever { KeptEver (butterflies_in checks.0 l (input l.at work.now)) sink.old sink.new }
     ensures upper_bound { sink.new.count ≤ sink.old.count + 2 ^ 40 }
 {
-    if !checks.contains(mesh::Checks::BUTTERFLY) {
+    if !checks.contains(Checks::BUTTERFLY) {
         return;
     }
     all_cells::keep_bows(work, l, sink);
@@ -59,89 +59,54 @@ fn find_butterflies(checks: mesh::Checks, work: &[u32], l: layout::Layout, sink:
 
 // Kinds 2, 3 and 4, on tables that are built; every face is sought the way that the choice gives, and counted.
 fn find_topology(
-    coords: &[f64],
-    kinds: &[u8],
-    ends: &[u32],
-    words: &[u32],
-    tol: f64,
-    checks: mesh::Checks,
+    model: &Accepted,
     choice: Choice,
     work: &mut [u32],
     l: layout::Layout,
     sink: &mut Sink<'_>,
 ) -> Tally
-    ghost m: { Model }
-    requires checks_value { model_of coords.now kinds.now ends.now words.now tol checks.0 0 ≡ m }
-    requires ready { Ready m l work.old }
+    requires ready { Ready (lent model.now.model) l work.old }
     requires few { sink.old.count ≤ 2 ^ 41 }
-    ensures kept_by { KeptBy m (topology_of m) sink.old sink.new }
-    ensures tallied { Tallied (goes_by_nodes choice m) (length (faces_in m)) result }
+    ensures kept_by { KeptBy (lent model.now.model) (topology_of (lent model.now.model)) sink.old sink.new }
+    ensures tallied { Tallied (goes_by_nodes choice (lent model.now.model)) (length (faces_in (lent model.now.model))) result }
 {
+    let m = model.model;
     let s = indexes::index_faces(work, l);
     let by = s.by;
     let by_nodes = choice.by_nodes(s.by_nodes);
-    all_cells::keep_overs(coords, work, l, by, sink);
-    let tally = all_cells::keep_pairs(coords, tol, work, l, by, by_nodes, sink);
-    all_cells::keep_repeats(coords, kinds, ends, words, work, l, sink);
+    all_cells::keep_overs(m.coords, work, l, by, sink);
+    let tally = all_cells::keep_pairs(m.coords, m.tolerance, work, l, by, by_nodes, sink);
+    all_cells::keep_repeats(&m, work, l, sink);
     tally
 }
 
-// All findings of an accepted model, in order; t is what its acceptance counted. Where the flags ask for nothing no table is built.
-fn find_all(
-    coords: &[f64],
-    kinds: &[u8],
-    ends: &[u32],
-    words: &[u32],
-    tol: f64,
-    checks: mesh::Checks,
-    choice: Choice,
-    work: &mut [u32],
-    t: mesh::CellTally,
-    sink: &mut Sink<'_>,
-) -> Tally
-    ghost m: { Model }
-    requires checks_value { model_of coords.now kinds.now ends.now words.now tol checks.0 0 ≡ m }
-    requires m_value { (model_refusal m ≡ 0) × ModelCounted m t × (work_needed m ≤ length work.old) }
+// All findings of an accepted model, in order. Where the flags ask for nothing no table is built.
+fn find_all(model: &Accepted, choice: Choice, work: &mut [u32], sink: &mut Sink<'_>) -> Tally
+    requires room { work_needed (lent model.now.model) ≤ length work.old }
     requires few { sink.old.count ≤ 2 ^ 40 }
-    ensures kept_by { KeptBy m (full_of m) sink.old sink.new }
-    ensures tallied { Tallied (goes_by_nodes choice m) (sought_in m) result }
+    ensures kept_by { KeptBy (lent model.now.model) (full_of (lent model.now.model)) sink.old sink.new }
+    ensures tallied { Tallied (goes_by_nodes choice (lent model.now.model)) (sought_in (lent model.now.model)) result }
 {
-    if !checks.intersects(mesh::Checks::ALL) {
+    let checks = model.model.checks;
+    if !checks.intersects(Checks::ALL) {
         return seek::unsought();
     }
-    let l = model_tables::build_tables(coords, kinds, ends, words, tol, checks, work, t);
+    let l = model_tables::build_tables(model, work);
     find_butterflies(checks, work, l, sink);
-    if !checks.contains(mesh::Checks::TOPOLOGY) {
+    if !checks.contains(Checks::TOPOLOGY) {
         return seek::unsought();
     }
-    find_topology(
-        coords, kinds, ends, words, tol, checks, choice, work, l, sink,
-    )
+    find_topology(model, choice, work, l, sink)
 }
 
 // The same, counted, and the records of the first kept in the lent bytes.
-pub fn find(
-    coords: &[f64],
-    kinds: &[u8],
-    ends: &[u32],
-    words: &[u32],
-    tol: f64,
-    checks: mesh::Checks,
-    choice: Choice,
-    work: &mut [u32],
-    t: mesh::CellTally,
-    findings: &mut [u8],
-) -> Counts
-    ghost m: { Model }
-    requires checks_value { model_of coords.now kinds.now ends.now words.now tol checks.0 0 ≡ m }
-    requires m_value { (model_refusal m ≡ 0) × ModelCounted m t × (work_needed m ≤ length work.old) }
-    ensures found { FoundIn m findings.old findings.new result.findings }
-    ensures tallied { Tallied (goes_by_nodes choice m) (sought_in m) result.tally }
+pub fn find(model: &Accepted, choice: Choice, work: &mut [u32], findings: &mut [u8]) -> Counts
+    requires room { work_needed (lent model.now.model) ≤ length work.old }
+    ensures found { FoundIn (lent model.now.model) findings.old findings.new result.findings }
+    ensures tallied { Tallied (goes_by_nodes choice (lent model.now.model)) (sought_in (lent model.now.model)) result.tally }
 {
     let mut sink = Sink::new(findings);
-    let tally = find_all(
-        coords, kinds, ends, words, tol, checks, choice, work, t, &mut sink,
-    );
+    let tally = find_all(model, choice, work, &mut sink);
     Counts {
         findings: sink.count,
         tally,

@@ -1,59 +1,59 @@
 // The program: from the bytes of standard input to those of standard output.
 #![tactic(auto)]
 
-ghost use Rattle.std.specs.Prelude.{◌*◌, ◌≤◌, length, take};
+ghost use Rattle.std.specs.Prelude.{◌≡◌, ◌*◌, ◌≤◌, length, take};
+ghost use Rattle.mesh.specs.Lent.{lent};
 ghost use Rattle.mesh.specs.Model.{model_of};
 ghost use Rattle.report.specs.Program.{output};
 ghost use Rattle.report_text.specs.Stored.{Stored};
 ghost use Rattle.program.specs.Running.{Memory, Lists, Running};
 ghost use Rattle.program.specs.Steps.{text_of, Keeps, Parts, Reporting};
 
-use findings::CheckAnswer;
-use model_file::{Found, ReadAnswer};
+use findings::Totals;
+use mesh::{Checks, Model};
+use model_file::Found;
+use refusals::Refusal;
 
 // The text of what the check answers.
-fn put_answer(answer: CheckAnswer, findings: &[u8], out: &mut [u8]) -> usize
+fn put_answer(answer: Result<Totals, Refusal>, findings: &[u8], out: &mut [u8]) -> usize
     requires { Keeps answer findings.now × (65600 ≤ length out.old) }
     ensures { Stored out.old 0 (text_of answer findings.now) out.new result × (result ≤ length out.old) }
 {
     match answer {
-        CheckAnswer::Refused(n) => report_text::put_refused(out, 0, n as u64),
-        CheckAnswer::Report(total, kept) => {
-            report_text::put_report(out, findings, total, kept as usize)
-        }
+        Err(e) => report_text::put_refused(out, 0, e.number() as u64),
+        Ok(t) => report_text::put_report(out, findings, t.total, t.kept as usize),
     }
 }
 
-// The check of what a file was found to hold, in the filled parts of the lists, and its report.
-fn report_on(
-    f: Found,
-    coords: &[f64],
-    kinds: &[u8],
-    ends: &[u32],
-    words: &[u32],
-    findings: &mut [u8],
-    work: &mut [u32],
-    out: &mut [u8],
-) -> usize
-    requires { Parts f (length coords.now) (length kinds.now) (length ends.now) (length words.now) × Memory (length findings.old) (length work.old) (length out.old) }
-    ensures { Reporting (model_of (take (3 * f.nodes) coords.now) (take f.cells kinds.now) (take f.cells ends.now) (take f.words words.now) f.tolerance f.flags f.cap) findings.old findings.new work.old work.new out.old out.new result }
+// The check of a model, and its report.
+fn report_on(model: &Model, findings: &mut [u8], work: &mut [u32], out: &mut [u8]) -> usize
+    requires { Memory (length findings.old) (length work.old) (length out.old) }
+    ensures { Reporting (lent model.now) findings.old findings.new work.old work.new out.old out.new result }
 {
-    let k = 3 * f.nodes;
-    let n = f.cells;
-    let w = f.words;
-    let checked = conformance::check(
-        &coords[0..k],
-        &kinds[0..n],
-        &ends[0..n],
-        &words[0..w],
-        f.tolerance,
-        mesh::Checks(f.flags),
-        f.cap,
-        findings,
-        work,
-    );
-    let answer = checked.answer;
+    let answer = conformance::check(model, findings, work).map(|c| c.totals);
     put_answer(answer, findings, out)
+}
+
+// The model that a file was found to hold, in the filled parts of the lists.
+fn found_model<'a>(
+    f: Found,
+    coords: &'a [f64],
+    kinds: &'a [u8],
+    ends: &'a [u32],
+    words: &'a [u32],
+) -> Model<'a>
+    requires { Parts f (length coords.now) (length kinds.now) (length ends.now) (length words.now) }
+    ensures { lent result ≡ model_of (take (3 * f.nodes) coords.now) (take f.cells kinds.now) (take f.cells ends.now) (take f.words words.now) f.tolerance f.flags f.cap }
+{
+    Model {
+        coords: &coords[..3 * f.nodes],
+        kinds: &kinds[..f.cells],
+        ends: &ends[..f.cells],
+        words: &words[..f.words],
+        tolerance: f.tolerance,
+        checks: Checks(f.flags),
+        cap: f.cap,
+    }
 }
 
 // The whole run, in lent lists.
@@ -71,12 +71,14 @@ pub fn run_in(
     ensures { Running input.now coords.old coords.new kinds.old kinds.new ends.old ends.new words.old words.new findings.old findings.new work.old work.new out.old out.new result }
 {
     if 32768 < input.len() {
-        return report_text::put_refused(out, 0, 1);
+        return report_text::put_refused(out, 0, Refusal::FileLength.number() as u64);
     }
-    let answer = model_read::read(input, coords, kinds, ends, words);
-    match answer {
-        ReadAnswer::Refused(n) => report_text::put_refused(out, 0, n as u64),
-        ReadAnswer::Read(f) => report_on(f, coords, kinds, ends, words, findings, work, out),
+    match model_read::read(input, coords, kinds, ends, words) {
+        Err(e) => report_text::put_refused(out, 0, e.number() as u64),
+        Ok(f) => {
+            let m = found_model(f, coords, kinds, ends, words);
+            report_on(&m, findings, work, out)
+        }
     }
 }
 
