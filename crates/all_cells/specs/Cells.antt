@@ -5,6 +5,7 @@ use Rattle.mesh.specs.Model.{cells_from}
 use Rattle.mesh.specs.Acceptance.{ends_off}
 use Rattle.findings.specs.Findings.{Rules, Finding}
 use Rattle.findings.specs.Compared.{none}
+use Rattle.records.specs.declared.Sink.{Sink}
 use Rattle.records.specs.Keeping.{Kept}
 use Rattle.mesh.specs.Rings.{nodes_in}
 use Rattle.layout.specs.declared.Layout.{Layout}
@@ -27,5 +28,5 @@ abbrev pub repeat_in : Layout → List ℕ → List ℕ → List ℕ → List �
 repeat_in l t kinds ends words c = repeat_cell l t c (words_of_cell kinds ends words c)
 
 -- kept, whatever the rules
-abbrev pub KeptEver : ℕ → ℕ → List Finding → List ℕ → List ℕ → ℕ → Type 0
-KeptEver room n xs f f' k = (R : Rules) → Kept R room n xs f f' k
+abbrev pub KeptEver : List Finding → Sink → Sink → Type 0
+KeptEver xs s s' = (R : Rules) → Kept R xs s s'

@@ -13,29 +13,24 @@ ghost use Rattle.layout.specs.ByCell.{plain_rules, bow_cell, over_cell, partly_c
 ghost use Rattle.layout.specs.Kept.{KeptAny};
 ghost use Rattle.all_cells.specs.Cells.{CellsIn, repeat_in, KeptEver};
 
+use records::{Kind, Record, Sink};
+
 // The bow-tie of cell c, where it is one.
-fn keep_bow(
-    work: &[u32],
-    l: layout::Layout,
-    c: usize,
-    findings: &mut [u8],
-    room: usize,
-    n: usize,
-) -> usize
+fn keep_bow(work: &[u32], l: layout::Layout, c: usize, sink: &mut Sink<'_>)
     requires faced { Faced l (input l.at work.now) }
     requires c_bound { (c < l.at.cell_count) × (c < 2 ^ 32) }
-    requires room_in_bounds { (64 * room ≤ length findings.old) × (n + 1 ≤ 2 ^ 57) }
-    ensures kept_ever { KeptEver room n (bow_cell l (input l.at work.now) c) findings.old findings.new result }
-    ensures upper_bound { result ≤ n + 1 }
+    requires few { sink.old.count < 2 ^ 57 }
+    ensures kept_ever { KeptEver (bow_cell l (input l.at work.now) c) sink.old sink.new }
+    ensures upper_bound { sink.new.count ≤ sink.old.count + 1 }
 {
     let p = l.at;
     let b = p.bows + c;
     if work[b] == 0 {
-        return n;
+        return;
     }
-    let r = records::Record {
-        kind: 1,
-        first: counting::narrow(c),
+    let r = Record {
+        kind: Kind::BowTie as u8,
+        first: c as u32,
         second: 0,
         a: 0,
         b: 0,
@@ -46,32 +41,20 @@ fn keep_bow(
         y: 0.0,
         z: 0.0,
     };
-    records::keep_record(findings, room, n, r, origin)
+    sink.keep(r, origin);
 }
 
 // 1, bow-ties.
-pub fn keep_bows(
-    work: &[u32],
-    l: layout::Layout,
-    findings: &mut [u8],
-    room: usize,
-    n: usize,
-) -> usize
+pub fn keep_bows(work: &[u32], l: layout::Layout, sink: &mut Sink<'_>)
     requires faced { Faced l (input l.at work.now) }
     requires cell_count_bound { l.at.cell_count ≤ 2 ^ 18 }
-    requires room_in_bounds { (64 * room ≤ length findings.old) × (n ≤ 2 ^ 50) }
-    ensures kept_ever { KeptEver room n (each (bow_cell l (input l.at work.now)) (up_from 0 l.at.cell_count)) findings.old findings.new result }
-    ensures upper_bound { result ≤ n + 2 ^ 40 }
+    requires few { sink.old.count ≤ 2 ^ 50 }
+    ensures kept_ever { KeptEver (each (bow_cell l (input l.at work.now)) (up_from 0 l.at.cell_count)) sink.old sink.new }
+    ensures upper_bound { sink.new.count ≤ sink.old.count + 2 ^ 40 }
 {
-    let p = l.at;
-    let cells = p.cell_count;
-    let mut k = n;
-    let mut c = 0;
-    while c < cells {
-        k = keep_bow(work, l, c, findings, room, k);
-        c += 1;
+    for c in 0..l.at.cell_count {
+        keep_bow(work, l, c, sink);
     }
-    k
 }
 
 // 2, overfull faces.
@@ -80,25 +63,17 @@ pub fn keep_overs(
     work: &[u32],
     l: layout::Layout,
     by: index::Places,
-    findings: &mut [u8],
-    room: usize,
-    n: usize,
-) -> usize
+    sink: &mut Sink<'_>,
+)
     requires standing { Standing l work.now }
     requires nodes_value { (l.at.nodes ≡ node_count coords.now) × Keyed l.at by (base l.at work.now) }
-    requires room_in_bounds { (64 * room ≤ length findings.old) × (n ≤ 2 ^ 50) }
-    ensures kept_any { KeptAny coords.now room n (each (over_cell l (input l.at work.now)) (up_from 0 l.at.cell_count)) findings.old findings.new result }
-    ensures upper_bound { result ≤ n + 2 ^ 40 }
+    requires few { sink.old.count ≤ 2 ^ 50 }
+    ensures kept_any { KeptAny coords.now (each (over_cell l (input l.at work.now)) (up_from 0 l.at.cell_count)) sink.old sink.new }
+    ensures upper_bound { sink.new.count ≤ sink.old.count + 2 ^ 40 }
 {
-    let p = l.at;
-    let cells = p.cell_count;
-    let mut k = n;
-    let mut c = 0;
-    while c < cells {
-        k = overfull::keep_overfull(coords, work, l, by, c, findings, room, k);
-        c += 1;
+    for c in 0..l.at.cell_count {
+        overfull::keep_overfull(coords, work, l, by, c, sink);
     }
-    k
 }
 
 // 3, partly shared pairs: every face is sought the way that is asked for, and counted. The pairs do not depend on the way.
@@ -109,33 +84,20 @@ pub fn keep_pairs(
     l: layout::Layout,
     by: index::Places,
     by_nodes: bool,
-    findings: &mut [u8],
-    room: usize,
-    n: usize,
-) -> partially_shared::Counts
+    sink: &mut Sink<'_>,
+) -> seek::Tally
     requires standing { Standing l work.old }
     requires nodes_value { (l.at.nodes ≡ node_count coords.now) × Keyed l.at by (base l.at work.old) }
-    requires room_in_bounds { (64 * room ≤ length findings.old) × (n ≤ 2 ^ 50) }
-    ensures kept { Kept (plain_rules coords.now tol) room n (each (partly_cell (plain_rules coords.now tol) l (input l.at work.old)) (up_from 0 l.at.cell_count)) findings.old findings.new result.findings }
-    ensures findings_bound { (result.findings ≤ n + 2 ^ 40) × Still l work.old work.new }
-    ensures tallied { Tallied by_nodes l.at.faces result.tally }
+    requires few { sink.old.count ≤ 2 ^ 50 }
+    ensures kept { Kept (plain_rules coords.now tol) (each (partly_cell (plain_rules coords.now tol) l (input l.at work.old)) (up_from 0 l.at.cell_count)) sink.old sink.new }
+    ensures findings_bound { (sink.new.count ≤ sink.old.count + 2 ^ 40) × Still l work.old work.new }
+    ensures tallied { Tallied by_nodes l.at.faces result }
 {
-    let p = l.at;
-    let cells = p.cell_count;
-    let none = seek::Tally {
-        nodes: 0,
-        triples: 0,
-    };
-    let mut k = partially_shared::Counts {
-        findings: n,
-        tally: none,
-    };
-    let mut c = 0;
-    while c < cells {
-        k = partially_shared::keep_partly(coords, tol, work, l, by, c, by_nodes, findings, room, k);
-        c += 1;
+    let mut tally = seek::unsought();
+    for c in 0..l.at.cell_count {
+        tally = partially_shared::keep_partly(coords, tol, work, l, by, c, by_nodes, tally, sink);
     }
-    k
+    tally
 }
 
 // 4, repeated nodes.
@@ -146,26 +108,18 @@ pub fn keep_repeats(
     words: &[u32],
     work: &mut [u32],
     l: layout::Layout,
-    findings: &mut [u8],
-    room: usize,
-    n: usize,
-) -> usize
+    sink: &mut Sink<'_>,
+)
     requires standing { Standing l work.old }
     requires nodes_value { (l.at.nodes ≡ node_count coords.now) × CellsIn l kinds.now ends.now words.now }
-    requires room_in_bounds { (64 * room ≤ length findings.old) × (n ≤ 2 ^ 50) }
-    ensures kept_any { KeptAny coords.now room n (each (repeat_in l (input l.at work.old) kinds.now ends.now words.now) (up_from 0 l.at.cell_count)) findings.old findings.new result }
-    ensures upper_bound { (result ≤ n + 2 ^ 40) × Still l work.old work.new }
+    requires few { sink.old.count ≤ 2 ^ 50 }
+    ensures kept_any { KeptAny coords.now (each (repeat_in l (input l.at work.old) kinds.now ends.now words.now) (up_from 0 l.at.cell_count)) sink.old sink.new }
+    ensures upper_bound { (sink.new.count ≤ sink.old.count + 2 ^ 40) × Still l work.old work.new }
 {
-    let p = l.at;
-    let cells = p.cell_count;
-    let mut k = n;
-    let mut from: usize = 0;
-    let mut c = 0;
-    while c < cells {
-        let e = mesh::wide(ends[c]);
-        k = repeated_nodes::keep_repeated(coords, &words[from..e], work, l, c, findings, room, k);
+    let mut from = 0;
+    for c in 0..l.at.cell_count {
+        let e = ends[c] as usize;
+        repeated_nodes::keep_repeated(coords, &words[from..e], work, l, c, sink);
         from = e;
-        c += 1;
     }
-    k
 }

@@ -52,7 +52,7 @@ pub fn check_by(
         return refused(11);
     }
     let room = counting::lesser(cap as usize, findings.len() / 64);
-    let total: partially_shared::Counts = full_list::find(
+    let total = full_list::find(
         coords,
         kinds,
         ends,
@@ -62,8 +62,7 @@ pub fn check_by(
         choice,
         &mut work[0..need],
         t,
-        findings,
-        room,
+        &mut findings[..64 * room],
     );
     snap::clear(work, 0, need);
     let tally = total.tally;

@@ -9,6 +9,7 @@ use Rattle.welding.specs.Used.{welds_of}
 use Rattle.findings.specs.Findings.{Finding, kind2, kind3, kind4}
 use Rattle.findings.specs.Rules.{rules_of, cells_in}
 use Rattle.findings.specs.Records.{record_of}
+use Rattle.records.specs.declared.Sink.{Sink}
 use Rattle.records.specs.Keeping.{Kept}
 use Rattle.records.proofs.Keeping.{kept_by}
 use Rattle.layout.specs.declared.Layout.{Layout}
@@ -25,19 +26,19 @@ same_records : (m : Model) (tol : Float) (x : Finding) → record_of (plain_rule
 unfolding rules_of
 same_records m tol x = records_same m.coords tol m.tolerance [] (welds_of m) x
 
-module _ (m : Model) (l : Layout) (t : List ℕ) (S : Shows m l t) (room n k : ℕ) (f g : List ℕ) where
-  pub overs_kept : KeptAny m.coords room n (each (over_cell l t) (up_from 0 l.at.cell_count)) f g k → KeptBy m room n (walk (kind2 (rules_of m)) [] (cells_in m)) f g k
+module _ (m : Model) (l : Layout) (t : List ℕ) (S : Shows m l t) (s u : Sink) where
+  pub overs_kept : KeptAny m.coords (each (over_cell l t) (up_from 0 l.at.cell_count)) s u → KeptBy m (walk (kind2 (rules_of m)) [] (cells_in m)) s u
   overs_kept p =
-      subst (λ (xs : List Finding). Kept (rules_of m) room n xs f g k) (overs_shown m l t S)
-      (kept_by (plain_rules m.coords m.tolerance) (rules_of m) room n _ f g k (same_records m m.tolerance) (p m.tolerance))
+      subst (λ (xs : List Finding). Kept (rules_of m) xs s u) (overs_shown m l t S)
+      (kept_by (plain_rules m.coords m.tolerance) (rules_of m) _ s u (same_records m m.tolerance) (p m.tolerance))
 
-  pub pairs_kept : Kept (plain_rules m.coords m.tolerance) room n (each (partly_cell (plain_rules m.coords m.tolerance) l t) (up_from 0 l.at.cell_count)) f g k → KeptBy m room n (walk (kind3 (rules_of m)) [] (cells_in m)) f g k
+  pub pairs_kept : Kept (plain_rules m.coords m.tolerance) (each (partly_cell (plain_rules m.coords m.tolerance) l t) (up_from 0 l.at.cell_count)) s u → KeptBy m (walk (kind3 (rules_of m)) [] (cells_in m)) s u
   pairs_kept p =
-      subst (λ (xs : List Finding). Kept (rules_of m) room n xs f g k) (partly_shown m l t S)
-      (kept_by (plain_rules m.coords m.tolerance) (rules_of m) room n _ f g k (same_records m m.tolerance) p)
+      subst (λ (xs : List Finding). Kept (rules_of m) xs s u) (partly_shown m l t S)
+      (kept_by (plain_rules m.coords m.tolerance) (rules_of m) _ s u (same_records m m.tolerance) p)
 
-  pub repeats_kept : KeptAny m.coords room n (each (repeat_in l t m.kinds m.ends m.words) (up_from 0 l.at.cell_count)) f g k → KeptBy m room n (walk (kind4 (rules_of m)) [] (cells_in m)) f g k
+  pub repeats_kept : KeptAny m.coords (each (repeat_in l t m.kinds m.ends m.words) (up_from 0 l.at.cell_count)) s u → KeptBy m (walk (kind4 (rules_of m)) [] (cells_in m)) s u
   unfolding cells_of
   repeats_kept p =
-      subst (λ (xs : List Finding). Kept (rules_of m) room n xs f g k) (repeats_shown m l t S)
-      (kept_by (plain_rules m.coords m.tolerance) (rules_of m) room n (each (repeat_in l t m.kinds m.ends m.words) (up_from 0 l.at.cell_count)) f g k (same_records m m.tolerance) (p m.tolerance))
+      subst (λ (xs : List Finding). Kept (rules_of m) xs s u) (repeats_shown m l t S)
+      (kept_by (plain_rules m.coords m.tolerance) (rules_of m) (each (repeat_in l t m.kinds m.ends m.words) (up_from 0 l.at.cell_count)) s u (same_records m m.tolerance) (p m.tolerance))

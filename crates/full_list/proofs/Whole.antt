@@ -7,6 +7,7 @@ use Rattle.laws.specs.Lists.{only_if, each, walk, up_from}
 use Rattle.mesh.specs.Model.{Model, contains, TOPOLOGY, BUTTERFLY}
 use Rattle.findings.specs.Findings.{Finding, kind1, kind2, kind3, kind4, full}
 use Rattle.findings.specs.Rules.{rules_of, cells_in, full_of}
+use Rattle.records.specs.declared.Sink.{Sink}
 use Rattle.records.specs.Keeping.{Kept}
 use Rattle.records.proofs.Keeping.{kept_none, kept_then}
 use Rattle.layout.specs.declared.Layout.{Layout}
@@ -26,48 +27,48 @@ unfolding full_of full topology_of
 full_is m = by_flags (contains m.flags BUTTERFLY) (contains m.flags TOPOLOGY) (walk (kind1 (rules_of m)) [] (cells_in m)) (walk (kind2 (rules_of m)) [] (cells_in m)) (walk (kind3 (rules_of m)) [] (cells_in m)) (walk (kind4 (rules_of m)) [] (cells_in m))
 
 -- nothing asked for, and nothing there
-pub none_kept : (m : Model) (room : ℕ) (f : List ℕ) → m.flags ≡ 0 → KeptBy m room 0 (full_of m) f f 0
-none_kept m room f e =
+pub none_kept : (m : Model) (s : Sink) → m.flags ≡ 0 → KeptBy m (full_of m) s s
+none_kept m s e =
     let bows = walk (kind1 (rules_of m)) [] (cells_in m) in
     let empty : full_of m ≡ [] = full_is m ∙ ap (λ (n : ℕ). only_if (contains n BUTTERFLY) bows ++ only_if (contains n TOPOLOGY) (topology_of m)) e in
-    subst (λ (xs : List Finding). Kept (rules_of m) room 0 xs f f 0) (sym empty) (kept_none (rules_of m) room 0 f)
+    subst (λ (xs : List Finding). Kept (rules_of m) xs s s) (sym empty) (kept_none (rules_of m) s)
 
 -- the butterflies, not asked for and asked for
-pub butterflies_none : (flags : ℕ) (l : Layout) (t : List ℕ) (room : ℕ) (f : List ℕ) → contains flags BUTTERFLY ≡ false → KeptEver room 0 (butterflies_in flags l t) f f 0
+pub butterflies_none : (flags : ℕ) (l : Layout) (t : List ℕ) (s : Sink) → contains flags BUTTERFLY ≡ false → KeptEver (butterflies_in flags l t) s s
 unfolding butterflies_in
-butterflies_none flags l t room f e R = subst (λ (b : Bool). Kept R room 0 (only_if b (each (bow_cell l t) (up_from 0 l.at.cell_count))) f f 0) (sym e) (kept_none R room 0 f)
+butterflies_none flags l t s e R = subst (λ (b : Bool). Kept R (only_if b (each (bow_cell l t) (up_from 0 l.at.cell_count))) s s) (sym e) (kept_none R s)
 
-pub butterflies_some : (flags : ℕ) (l : Layout) (t : List ℕ) (room : ℕ) (f g : List ℕ) (k : ℕ) → contains flags BUTTERFLY ≡ true → KeptEver room 0 (each (bow_cell l t) (up_from 0 l.at.cell_count)) f g k → KeptEver room 0 (butterflies_in flags l t) f g k
+pub butterflies_some : (flags : ℕ) (l : Layout) (t : List ℕ) (s s' : Sink) → contains flags BUTTERFLY ≡ true → KeptEver (each (bow_cell l t) (up_from 0 l.at.cell_count)) s s' → KeptEver (butterflies_in flags l t) s s'
 unfolding butterflies_in
-butterflies_some flags l t room f g k e p R = subst (λ (b : Bool). Kept R room 0 (only_if b (each (bow_cell l t) (up_from 0 l.at.cell_count))) f g k) (sym e) (p R)
+butterflies_some flags l t s s' e p R = subst (λ (b : Bool). Kept R (only_if b (each (bow_cell l t) (up_from 0 l.at.cell_count))) s s') (sym e) (p R)
 
 -- the butterflies that the tables tell
 butterflies_are : (m : Model) (l : Layout) (t : List ℕ) → Shows m l t → butterflies_in m.flags l t ≡ only_if (contains m.flags BUTTERFLY) (walk (kind1 (rules_of m)) [] (cells_in m))
 unfolding butterflies_in
 butterflies_are m l t S = ap (only_if (contains m.flags BUTTERFLY)) (bows_shown m l t S)
 
-module _ (m : Model) (l : Layout) (t : List ℕ) (S : Shows m l t) (room n : ℕ) (f g : List ℕ) (p : KeptEver room 0 (butterflies_in m.flags l t) f g n) where
-  butterflies_kept : KeptBy m room 0 (only_if (contains m.flags BUTTERFLY) (walk (kind1 (rules_of m)) [] (cells_in m))) f g n
-  butterflies_kept = subst (λ (xs : List Finding). Kept (rules_of m) room 0 xs f g n) (butterflies_are m l t S) (p (rules_of m))
+module _ (m : Model) (l : Layout) (t : List ℕ) (S : Shows m l t) (s u : Sink) (p : KeptEver (butterflies_in m.flags l t) s u) where
+  butterflies_kept : KeptBy m (only_if (contains m.flags BUTTERFLY) (walk (kind1 (rules_of m)) [] (cells_in m))) s u
+  butterflies_kept = subst (λ (xs : List Finding). Kept (rules_of m) xs s u) (butterflies_are m l t S) (p (rules_of m))
 
   -- all there is without topology
-  pub all_first : contains m.flags TOPOLOGY ≡ false → KeptBy m room 0 (full_of m) f g n
+  pub all_first : contains m.flags TOPOLOGY ≡ false → KeptBy m (full_of m) s u
   all_first e =
-      subst (λ (xs : List Finding). Kept (rules_of m) room 0 xs f g n)
+      subst (λ (xs : List Finding). Kept (rules_of m) xs s u)
       (sym (full_is m ∙ ap (λ (b : Bool). only_if (contains m.flags BUTTERFLY) (walk (kind1 (rules_of m)) [] (cells_in m)) ++ only_if b (topology_of m)) e ∙ append-nil (only_if (contains m.flags BUTTERFLY) (walk (kind1 (rules_of m)) [] (cells_in m)))))
       butterflies_kept
 
   -- and with it
-  pub all_both : (h : List ℕ) (k : ℕ) → contains m.flags TOPOLOGY ≡ true → KeptBy m room n (topology_of m) g h k → KeptBy m room 0 (full_of m) f h k
-  all_both h k e q =
-      subst (λ (xs : List Finding). Kept (rules_of m) room 0 xs f h k)
+  pub all_both : (v : Sink) → contains m.flags TOPOLOGY ≡ true → KeptBy m (topology_of m) u v → KeptBy m (full_of m) s v
+  all_both v e q =
+      subst (λ (xs : List Finding). Kept (rules_of m) xs s v)
       (sym (full_is m ∙ ap (λ (b : Bool). only_if (contains m.flags BUTTERFLY) (walk (kind1 (rules_of m)) [] (cells_in m)) ++ only_if b (topology_of m)) e))
-      (kept_then (rules_of m) room 0 (only_if (contains m.flags BUTTERFLY) (walk (kind1 (rules_of m)) [] (cells_in m))) (topology_of m) f g h n k butterflies_kept q)
+      (kept_then (rules_of m) (only_if (contains m.flags BUTTERFLY) (walk (kind1 (rules_of m)) [] (cells_in m))) (topology_of m) s u v butterflies_kept q)
 
 -- topology, kind by kind
-pub three_kept : (m : Model) (room n a b c : ℕ) (f g h e : List ℕ) → KeptBy m room n (walk (kind2 (rules_of m)) [] (cells_in m)) f g a → KeptBy m room a (walk (kind3 (rules_of m)) [] (cells_in m)) g h b
-    → KeptBy m room b (walk (kind4 (rules_of m)) [] (cells_in m)) h e c → KeptBy m room n (topology_of m) f e c
+pub three_kept : (m : Model) (s t u v : Sink) → KeptBy m (walk (kind2 (rules_of m)) [] (cells_in m)) s t → KeptBy m (walk (kind3 (rules_of m)) [] (cells_in m)) t u
+    → KeptBy m (walk (kind4 (rules_of m)) [] (cells_in m)) u v → KeptBy m (topology_of m) s v
 unfolding topology_of
-three_kept m room n a b c f g h e p q r =
-    kept_then (rules_of m) room n (walk (kind2 (rules_of m)) [] (cells_in m)) (walk (kind3 (rules_of m)) [] (cells_in m) ++ walk (kind4 (rules_of m)) [] (cells_in m)) f g e a c p
-    (kept_then (rules_of m) room a (walk (kind3 (rules_of m)) [] (cells_in m)) (walk (kind4 (rules_of m)) [] (cells_in m)) g h e b c q r)
+three_kept m s t u v p q r =
+    kept_then (rules_of m) (walk (kind2 (rules_of m)) [] (cells_in m)) (walk (kind3 (rules_of m)) [] (cells_in m) ++ walk (kind4 (rules_of m)) [] (cells_in m)) s t v p
+    (kept_then (rules_of m) (walk (kind3 (rules_of m)) [] (cells_in m)) (walk (kind4 (rules_of m)) [] (cells_in m)) t u v q r)

@@ -1,10 +1,13 @@
 -- For internal contracts: the findings of a model, kind by kind.
-use Rattle.std.specs.Prelude.{ℕ, cond, List, [], ◌++◌, ◌≡◌, length}
+use Rattle.std.specs.Prelude.{ℕ, ◌/◌, cond, List, [], ◌++◌, ◌≡◌, length, take}
+use Rattle.std.proofs.lemmas.List.Edits.{sets}
 use Rattle.laws.specs.Lists.{only_if, each, walk, up_from}
 use Rattle.mesh.specs.Model.{Model, contains, TOPOLOGY, BUTTERFLY}
 use Rattle.mesh.specs.Acceptance.{model_refusal, faces_in}
 use Rattle.findings.specs.Findings.{Finding, kind2, kind3, kind4}
-use Rattle.findings.specs.Rules.{rules_of, cells_in}
+use Rattle.findings.specs.Rules.{rules_of, cells_in, full_of}
+use Rattle.findings.specs.Records.{record_of}
+use Rattle.records.specs.declared.Sink.{Sink}
 use Rattle.records.specs.Keeping.{Kept}
 use Rattle.layout.specs.declared.Layout.{Layout}
 use Rattle.layout.specs.ByCell.{bow_cell}
@@ -23,8 +26,13 @@ unfoldable pub sought_in : Model → ℕ
 sought_in m = cond (contains m.flags TOPOLOGY) (length (faces_in m)) 0
 
 -- kept as the records of m
-abbrev pub KeptBy : Model → ℕ → ℕ → List Finding → List ℕ → List ℕ → ℕ → Type 0
-KeptBy m room n xs f f' k = Kept (rules_of m) room n xs f f' k
+abbrev pub KeptBy : Model → List Finding → Sink → Sink → Type 0
+KeptBy m xs s s' = Kept (rules_of m) xs s s'
+
+-- the findings of m are k; the records of the first are written over f, which becomes f', as many as it has room for
+pub record FoundIn (m : Model) (f f' : List ℕ) (k : ℕ) : Type 0 where
+  pub count : k ≡ length (full_of m)
+  pub bytes : f' ≡ sets f 0 (each (record_of (rules_of m)) (take (length f / 64) (full_of m)))
 
 -- an accepted model whose tables are built in w
 pub record Ready (m : Model) (l : Layout) (w : List ℕ) : Type 0 where

@@ -14,6 +14,8 @@ ghost use Rattle.layout.specs.ByCell.{over_face, over_cell};
 ghost use Rattle.overfull.specs.Alike.{same_as, alike, start, noted, tallied, Listed, FaceOf};
 ghost use Rattle.layout.specs.Kept.{KeptAny};
 
+use records::{Kind, Record, Sink};
+
 // How many faces with one key are met, and the second of them; before there is one, the face that is asked for.
 #[derive(Clone, Copy)]
 struct Tally {
@@ -139,55 +141,48 @@ fn keep_face(
     by: index::Places,
     c: usize,
     g: usize,
-    findings: &mut [u8],
-    room: usize,
-    n: usize,
-) -> usize
+    sink: &mut Sink<'_>,
+)
     requires standing { Standing l work.now }
     requires face_of { FaceOf l (input l.at work.now) c g × (l.at.nodes ≡ node_count coords.now) × Keyed l.at by (base l.at work.now) }
-    requires room_in_bounds { (64 * room ≤ length findings.old) × (n + 1 ≤ 2 ^ 57) }
-    ensures kept_any { KeptAny coords.now room n (over_face l (input l.at work.now) g) findings.old findings.new result }
-    ensures upper_bound { result ≤ n + 1 }
+    requires few { sink.old.count < 2 ^ 57 }
+    ensures kept_any { KeptAny coords.now (over_face l (input l.at work.now) g) sink.old sink.new }
+    ensures upper_bound { sink.new.count ≤ sink.old.count + 1 }
 {
     let s = count_alike(work, l, by, g);
     if s.count < 3 {
-        return n;
+        return;
     }
     let second = s.second;
-    let r = records::Record {
-        kind: 2,
-        first: counting::narrow(c),
-        second: counting::narrow(layout::cell_of(work, l, second)),
-        a: counting::narrow(g),
+    let r = Record {
+        kind: Kind::Overfull as u8,
+        first: c as u32,
+        second: layout::cell_of(work, l, second) as u32,
+        a: g as u32,
         b: 0,
-        count: counting::narrow(s.count),
+        count: s.count as u32,
     };
-    records::keep_record(findings, room, n, r, centre_of(coords, work, l, g))
+    sink.keep(r, centre_of(coords, work, l, g));
 }
 
-// The overfull faces whose first cell is c, behind n findings; answers how many there are then.
+// The overfull faces whose first cell is c.
 pub fn keep_overfull(
     coords: &[f64],
     work: &[u32],
     l: layout::Layout,
     by: index::Places,
     c: usize,
-    findings: &mut [u8],
-    room: usize,
-    n: usize,
-) -> usize
+    sink: &mut Sink<'_>,
+)
     requires standing { Standing l work.now }
     requires c_bound { (c < l.at.cell_count) × (l.at.nodes ≡ node_count coords.now) × Keyed l.at by (base l.at work.now) }
-    requires room_in_bounds { (64 * room ≤ length findings.old) × (n ≤ 2 ^ 56) }
-    ensures kept_any { KeptAny coords.now room n (over_cell l (input l.at work.now) c) findings.old findings.new result }
-    ensures upper_bound { result ≤ n + 2 ^ 18 }
+    requires few { sink.old.count ≤ 2 ^ 56 }
+    ensures kept_any { KeptAny coords.now (over_cell l (input l.at work.now) c) sink.old sink.new }
+    ensures upper_bound { sink.new.count ≤ sink.old.count + 2 ^ 18 }
 {
+    let s = layout::first_face(work, l, c);
     let e = layout::first_face(work, l, c + 1);
-    let mut n = n;
-    let mut g = layout::first_face(work, l, c);
-    while g < e {
-        n = keep_face(coords, work, l, by, c, g, findings, room, n);
-        g += 1;
+    for g in s..e {
+        keep_face(coords, work, l, by, c, g, sink);
     }
-    n
 }

@@ -16,6 +16,7 @@ use Rattle.laws.proofs.Tests.{tested, split}
 use Rattle.laws.proofs.Stores.{get_or-region, length-region, region_set_before}
 use Rattle.findings.specs.Findings.{Finding}
 use Rattle.index.specs.Faces.{input}
+use Rattle.records.specs.declared.Sink.{Sink}
 use Rattle.records.specs.Keeping.{Kept}
 use Rattle.records.proofs.Keeping.{kept_none, kept_next}
 use Rattle.layout.specs.declared.Layout.{Layout}
@@ -108,40 +109,47 @@ all_cleared l t w v hits r sp m p =
 
 -- ---- what is kept of it
 
-pub keeps_start : (c : List Float) (room n : ℕ) (h : ℕ → List Finding) (a : ℕ) (f : List ℕ) → KeptAny c room n (each h (up_from a (a - a))) f f n
-keeps_start c room n h a f tol = let z : 0 ≡ a - a = omega arith in subst (λ (k : ℕ). Kept (plain_rules c tol) room n (each h (up_from a k)) f f n) z (kept_none (plain_rules c tol) room n f)
+pub keeps_start : (c : List Float) (h : ℕ → List Finding) (a : ℕ) (s : Sink) → KeptAny c (each h (up_from a (a - a))) s s
+keeps_start c h a s tol = let z : 0 ≡ a - a = omega arith in subst (λ (k : ℕ). Kept (plain_rules c tol) (each h (up_from a k)) s s) z (kept_none (plain_rules c tol) s)
 
-pub keeps_next : (c : List Float) (room n k j : ℕ) (h : ℕ → List Finding) (xs : List Finding) (a b : ℕ) (f g e : List ℕ) → a ≤ b → xs ≡ h b → KeptAny c room n (each h (up_from a (b - a))) f g k → KeptAny c room k xs g e j
-    → KeptAny c room n (each h (up_from a (b + 1 - a))) f e j
-keeps_next c room n k j h xs a b f g e le is p q tol =
+pub keeps_next : (c : List Float) (h : ℕ → List Finding) (xs : List Finding) (a b : ℕ) (s q r : Sink) → a ≤ b → xs ≡ h b → KeptAny c (each h (up_from a (b - a))) s q → KeptAny c xs q r
+    → KeptAny c (each h (up_from a (b + 1 - a))) s r
+keeps_next c h xs a b s q r le is kept more tol =
     let z : b - a + 1 ≡ b + 1 - a = omega (arith, le) in
     let y : b ≡ a + (b - a) = omega (arith, le) in
-    subst (λ (i : ℕ). Kept (plain_rules c tol) room n (each h (up_from a i)) f e j) z
-    (kept_next (plain_rules c tol) room n k j h xs a (b - a) f g e (is ∙ ap h y) (p tol) (q tol))
+    subst (λ (i : ℕ). Kept (plain_rules c tol) (each h (up_from a i)) s r) z
+    (kept_next (plain_rules c tol) h xs a (b - a) s q r (is ∙ ap h y) (kept tol) (more tol))
 
 -- the cells before b are told
-pub record Telling (c : List Float) (room n : ℕ) (l : Layout) (t w : List ℕ) (i a : ℕ) (f v g : List ℕ) (k b : ℕ) : Type 0 where
+pub record Telling (c : List Float) (l : Layout) (t w : List ℕ) (i a : ℕ) (s : Sink) (v : List ℕ) (q : Sink) (b : ℕ) : Type 0 where
   pub clearing : Clearing l w a b v
-  pub kept : KeptAny c room n (each (mark_tells l t w i) (up_from a (b - a))) f g k
+  pub kept : KeptAny c (each (mark_tells l t w i) (up_from a (b - a))) s q
   pub search : Searching l v
-  pub few : k ≤ n + (b - a)
+  pub few : q.count ≤ s.count + (b - a)
   pub from : a ≤ b
-  pub long : length g ≡ length f
 
-pub telling_next : (c : List Float) (room n : ℕ) (l : Layout) (w : List ℕ) (i a : ℕ) (f v g : List ℕ) (k b : ℕ) (u e : List ℕ) (j : ℕ) → Searching l w → b < l.at.cell_count
-    → Telling c room n l (input l.at w) w i a f v g k b → KeptAny c room k (mark_tells l (input l.at v) v i b) g e j → u ≡ set v (l.marks + b) 0 → j ≤ k + 1 → length e ≡ length g
-    → Telling c room n l (input l.at w) w i a f u e j (b + 1)
-telling_next c room n l w i a f v g k b u e j s low p q is few long =
-    let lower : l.at.found ≤ l.marks = omega (arith, s.spaced.marks_at) in
-    let clear : Clearing l w a (b + 1) u = subst (Clearing l w a (b + 1)) (sym is) (clearing_next l w v a b s.spaced low p.clearing) in
+pub telling_start : (c : List Float) (l : Layout) (w : List ℕ) (i a : ℕ) (s : Sink) → Searching l w → Telling c l (input l.at w) w i a s w s a
+telling_start c l w i a s search = record {
+  clearing = clearing_start l w a;
+  kept = keeps_start c (mark_tells l (input l.at w) w i) a s;
+  search = search;
+  few = omega arith;
+  from = omega arith;
+}
+
+pub telling_next : (c : List Float) (l : Layout) (w : List ℕ) (i a : ℕ) (s : Sink) (v : List ℕ) (q : Sink) (b : ℕ) (u : List ℕ) (r : Sink) → Searching l w → b < l.at.cell_count
+    → Telling c l (input l.at w) w i a s v q b → KeptAny c (mark_tells l (input l.at v) v i b) q r → u ≡ set v (l.marks + b) 0 → r.count ≤ q.count + 1
+    → Telling c l (input l.at w) w i a s u r (b + 1)
+telling_next c l w i a s v q b u r search low p more is few =
+    let lower : l.at.found ≤ l.marks = omega (arith, search.spaced.marks_at) in
+    let clear : Clearing l w a (b + 1) u = subst (Clearing l w a (b + 1)) (sym is) (clearing_next l w v a b search.spaced low p.clearing) in
     let same : mark_tells l (input l.at v) v i b ≡ mark_tells l (input l.at w) w i b =
-    ap (λ (t : List ℕ). mark_tells l t v i b) (input_on l w v s (beside_less l.at.found l.marks l w v lower p.clearing.beside))
+    ap (λ (t : List ℕ). mark_tells l t v i b) (input_on l w v search (beside_less l.at.found l.marks l w v lower p.clearing.beside))
     ∙ tells_same l (input l.at w) w v i b (p.clearing.same b low (omega arith)) in
     record {
       clearing = clear;
-      kept = keeps_next c room n k j (mark_tells l (input l.at w) w i) (mark_tells l (input l.at v) v i b) a b f g e p.from same p.kept q;
-      search = searching_on l w u s (beside_less l.at.found l.marks l w u lower clear.beside);
+      kept = keeps_next c (mark_tells l (input l.at w) w i) (mark_tells l (input l.at v) v i b) a b s q r p.from same p.kept more;
+      search = searching_on l w u search (beside_less l.at.found l.marks l w u lower clear.beside);
       few = omega (arith, p.few, few, p.from);
       from = omega (arith, p.from);
-      long = long ∙ p.long;
     }

@@ -7,7 +7,7 @@ use mathlib.Core.List.{List, [], ◌∷◌, ◌++◌, append-nil}
 use native.Mathlib.Omega.{arith}
 use borrow.Author.Tests.{eqb-true, eqb-false}
 use lib.Dec.{eqb}
-use lib.ListN.{length, get_or, set, drop}
+use lib.ListN.{get_or, set, drop}
 use lib.Seq.{drop-set-lt}
 use lib.Ieee.{Float}
 use Rattle.laws.specs.Lists.{each, up_from}
@@ -16,6 +16,7 @@ use Rattle.laws.proofs.ListLaws.{each_append, up_from_append}
 use Rattle.snap.proofs.Parts.{read_from}
 use Rattle.findings.specs.Findings.{Finding}
 use Rattle.index.specs.Faces.{input}
+use Rattle.records.specs.declared.Sink.{Sink}
 use Rattle.records.specs.Keeping.{Kept}
 use Rattle.pair_sort.specs.Pairs.{pair_at, pairs_at}
 use Rattle.pair_sort.proofs.PairLaws.{pairs_step}
@@ -39,36 +40,35 @@ each_further h a b d p q none =
     ∙ append-nil (each h (up_from a (b - a))))
 
 -- cells that are not marked are told with those before them
-telling_skip : (c : List Float) (room n : ℕ) (l : Layout) (t w : List ℕ) (i a : ℕ) (f v g : List ℕ) (k b d : ℕ) → b ≤ d → ((x : ℕ) → b ≤ x → x < d → get_or w (l.marks + x) 0 ≡ 0)
-    → Telling c room n l t w i a f v g k b → Telling c room n l t w i a f v g k d
-telling_skip c room n l t w i a f v g k b d le zero p = record {
+telling_skip : (c : List Float) (l : Layout) (t w : List ℕ) (i a : ℕ) (s : Sink) (v : List ℕ) (q : Sink) (b d : ℕ) → b ≤ d → ((x : ℕ) → b ≤ x → x < d → get_or w (l.marks + x) 0 ≡ 0)
+    → Telling c l t w i a s v q b → Telling c l t w i a s v q d
+telling_skip c l t w i a s v q b d le zero p = record {
   clearing = record {
     beside = p.clearing.beside;
     cleared = λ x h y z. go x h y z (split x b);
     same = λ x h y. p.clearing.same x h (omega (arith, y, le));
     still = p.clearing.still;
   };
-  kept = λ tol. subst (λ (xs : List Finding). Kept (plain_rules c tol) room n xs f g k) (each_further (mark_tells l t w i) a b d p.from le (λ x y z. tells_none l t w i x (zero x y z))) (p.kept tol);
+  kept = λ tol. subst (λ (xs : List Finding). Kept (plain_rules c tol) xs s q) (each_further (mark_tells l t w i) a b d p.from le (λ x y z. tells_none l t w i x (zero x y z))) (p.kept tol);
   search = p.search;
   few = omega (arith, p.few, p.from, le);
   from = omega (arith, p.from, le);
-  long = p.long;
 }
   where
     go : (x : ℕ) → x < l.at.cell_count → a ≤ x → x < d → (x < b) ⊎ (b ≤ x) → get_or v (l.marks + x) 0 ≡ 0
-    go x h y z (inl q) = p.clearing.cleared x h y q
-    go x h y z (inr q) = (p.clearing.same x h q).0 ∙ zero x q z
+    go x h y z (inl o) = p.clearing.cleared x h y o
+    go x h y z (inr o) = (p.clearing.same x h o).0 ∙ zero x o z
 
 -- j listed cells are visited; what is before `next` is told, and each marked cell from there on is still to come
-pub record Visiting (c : List Float) (room n : ℕ) (l : Layout) (w : List ℕ) (i count : ℕ) (f v g : List ℕ) (k next j : ℕ) : Type 0 where
-  pub telling : Telling c room n l (input l.at w) w i 0 f v g k next
+pub record Visiting (c : List Float) (l : Layout) (w : List ℕ) (i count : ℕ) (s : Sink) (v : List ℕ) (q : Sink) (next j : ℕ) : Type 0 where
+  pub telling : Telling c l (input l.at w) w i 0 s v q next
   pub behind : drop l.pairs v ≡ drop l.pairs w
   pub rising : Rising (pairs_at (l.pairs + 2 * j) (count - j) w)
   pub known : (b : ℕ) → Has b (pairs_at (l.pairs + 2 * j) (count - j) w) → b < l.at.cell_count
   pub there : (b : ℕ) → b < l.at.cell_count → next ≤ b → get_or w (l.marks + b) 0 ≢ 0 → Has b (pairs_at (l.pairs + 2 * j) (count - j) w)
   pub most : next ≤ l.at.cell_count
 
-module _ (c : List Float) (room n : ℕ) (l : Layout) (w : List ℕ) (i count : ℕ) (f : List ℕ) where
+module _ (c : List Float) (l : Layout) (w : List ℕ) (i count : ℕ) (s : Sink) where
   abbrev rest : ℕ → List (ℕ × ℕ)
   rest j = pairs_at (l.pairs + 2 * j) (count - j) w
 
@@ -79,7 +79,7 @@ module _ (c : List Float) (room n : ℕ) (l : Layout) (w : List ℕ) (i count : 
       let b : count - j - 1 ≡ count - (j + 1) = omega arith in
       pairs_step (l.pairs + 2 * j) (count - j) w (omega (arith, h)) ∙ ap₂ (λ (x y : ℕ). pair_at (l.pairs + 2 * j) w ∷ pairs_at x y w) a b
 
-  pub visiting_start : Listed l w count → Rising (pairs_at l.pairs count w) → Telling c room n l (input l.at w) w i 0 f w f n 0 → Visiting c room n l w i count f w f n 0 0
+  pub visiting_start : Listed l w count → Rising (pairs_at l.pairs count w) → Telling c l (input l.at w) w i 0 s w s 0 → Visiting c l w i count s w s 0 0
   visiting_start p r t = record {
     telling = t;
     behind = refl;
@@ -95,7 +95,7 @@ module _ (c : List Float) (room n : ℕ) (l : Layout) (w : List ℕ) (i count : 
           let b : count - 0 ≡ count = omega arith in
           ap₂ (λ (x y : ℕ). pairs_at x y w) a b
 
-  module _ (v g : List ℕ) (k next j : ℕ) (p : Visiting c room n l w i count f v g k next j) where
+  module _ (v : List ℕ) (q : Sink) (next j : ℕ) (p : Visiting c l w i count s v q next j) where
     -- where the next one stands
     pub listed_is : get_or v (l.pairs + 2 * j) 0 ≡ get_or w (l.pairs + 2 * j) 0
     listed_is = read_from l.pairs (l.pairs + 2 * j) v w p.behind (omega arith)
@@ -120,7 +120,7 @@ module _ (c : List Float) (room n : ℕ) (l : Layout) (w : List ℕ) (i count : 
       known_on x h = p.known x (subst (Has x) (sym (rest_is j more)) (inr h))
 
       -- a cell that was passed before
-      pub visiting_pass : b < next → Visiting c room n l w i count f v g k next (j + 1)
+      pub visiting_pass : b < next → Visiting c l w i count s v q next (j + 1)
       visiting_pass low = record {
         telling = p.telling;
         behind = p.behind;
@@ -142,20 +142,20 @@ module _ (c : List Float) (room n : ℕ) (l : Layout) (w : List ℕ) (i count : 
               absurd (omega (arith, d, is, h))
 
       -- it is told
-      pub visiting_next : (u e : List ℕ) (m : ℕ) → Searching l w → next ≤ b → KeptAny c room k (mark_tells l (input l.at v) v i b) g e m → u ≡ set v (l.marks + b) 0 → m ≤ k + 1 → length e ≡ length g
-          → Visiting c room n l w i count f u e m (b + 1) (j + 1)
-      visiting_next u e m s q kept set_is few long = record {
-        telling = telling_next c room n l w i 0 f v g k b u e m s listed_low (telling_skip c room n l (input l.at w) w i 0 f v g k next b q between p.telling) kept set_is few long;
-        behind = ap (drop l.pairs) set_is ∙ drop-set-lt l.pairs v (l.marks + b) 0 (omega (arith, listed_low, s.spaced.others_at, s.spaced.last_at, s.spaced.pairs_at)) ∙ p.behind;
+      pub visiting_next : (u : List ℕ) (r : Sink) → Searching l w → next ≤ b → KeptAny c (mark_tells l (input l.at v) v i b) q r → u ≡ set v (l.marks + b) 0 → r.count ≤ q.count + 1
+          → Visiting c l w i count s u r (b + 1) (j + 1)
+      visiting_next u r search from kept set_is few = record {
+        telling = telling_next c l w i 0 s v q b u r search listed_low (telling_skip c l (input l.at w) w i 0 s v q next b from between p.telling) kept set_is few;
+        behind = ap (drop l.pairs) set_is ∙ drop-set-lt l.pairs v (l.marks + b) 0 (omega (arith, listed_low, search.spaced.others_at, search.spaced.last_at, search.spaced.pairs_at)) ∙ p.behind;
         rising = ordered.1;
         known = known_on;
-        there = λ x h y z. later x h (omega (arith, y, q)) (λ d. absurd (omega (arith, d, y))) z;
+        there = λ x h y z. later x h (omega (arith, y, from)) (λ d. absurd (omega (arith, d, y))) z;
         most = omega (arith, listed_low);
       }
 
     -- all are
-    pub visiting_end : count ≤ j → Telling c room n l (input l.at w) w i 0 f v g k l.at.cell_count
-    visiting_end done = telling_skip c room n l (input l.at w) w i 0 f v g k next l.at.cell_count p.most none p.telling
+    pub visiting_end : count ≤ j → Telling c l (input l.at w) w i 0 s v q l.at.cell_count
+    visiting_end done = telling_skip c l (input l.at w) w i 0 s v q next l.at.cell_count p.most none p.telling
       where
         nothing : rest j ≡ []
         nothing = let e : count - j ≡ 0 = omega (arith, done) in ap (λ (y : ℕ). pairs_at (l.pairs + 2 * j) y w) e

@@ -17,6 +17,7 @@ ghost use Rattle.partially_shared.specs.Hits.{Searching, told_by, mark_tells, Ma
 ghost use Rattle.pair_sort.specs.Pairs.{pairs_at};
 
 use noting::note_cell;
+use records::{Kind, Record, Sink};
 
 mod noting; // the faces of a cell: candidates sought, later cells marked
 
@@ -35,13 +36,6 @@ pub struct Noted {
     pub tally: seek::Tally,
 }
 
-// How many findings there are, and how many faces were sought each way.
-#[derive(Clone, Copy)]
-pub struct Counts {
-    pub findings: usize,
-    pub tally: seek::Tally,
-}
-
 // The finding that the mark of cell b tells.
 fn keep_pair(
     coords: &[f64],
@@ -49,14 +43,12 @@ fn keep_pair(
     l: layout::Layout,
     c: usize,
     b: usize,
-    findings: &mut [u8],
-    room: usize,
-    n: usize,
-) -> usize
+    sink: &mut Sink<'_>,
+)
     requires searching { Searching l work.now }
     requires c_bound { (c < l.at.cell_count) × (b < l.at.cell_count) × (l.at.nodes ≡ node_count coords.now) × (get_or work.now (l.marks + b) 0 ≢ 0) × (get_or work.now (l.marks + b) 0 ≤ l.at.faces) × (get_or work.now (l.others + b) 0 < l.at.faces) }
-    requires room_in_bounds { (64 * room ≤ length findings.old) × (n + 1 ≤ 2 ^ 57) }
-    ensures { KeptAny coords.now room n (told_by l (input l.at work.now) c b (get_or work.now (l.marks + b) 0) (get_or work.now (l.others + b) 0) ∷ []) findings.old findings.new result }
+    requires few { sink.old.count < 2 ^ 57 }
+    ensures { KeptAny coords.now (told_by l (input l.at work.now) c b (get_or work.now (l.marks + b) 0) (get_or work.now (l.others + b) 0) ∷ []) sink.old sink.new }
 {
     let at = l.at;
     let found = at.found;
@@ -64,18 +56,18 @@ fn keep_pair(
     let g = work[l.others + b] as usize;
     let ix = index::Index {
         base: &work[..found],
-        at: at,
+        at,
     };
     let s = common_nodes::shared_of(coords, &ix, f, g);
-    let r = records::Record {
-        kind: 3,
+    let r = Record {
+        kind: Kind::PartlyShared as u8,
         first: c as u32,
         second: b as u32,
         a: f as u32,
         b: g as u32,
         count: s.count as u32,
     };
-    records::keep_record(findings, room, n, r, s.centre)
+    sink.keep(r, s.centre);
 }
 
 // The finding of cell b where it is marked; its mark becomes zero.
@@ -85,23 +77,20 @@ fn keep_marked(
     l: layout::Layout,
     c: usize,
     b: usize,
-    findings: &mut [u8],
-    room: usize,
-    n: usize,
-) -> usize
+    sink: &mut Sink<'_>,
+)
     requires searching { Searching l work.old }
     requires c_bound { (c < l.at.cell_count) × (b < l.at.cell_count) × (l.at.nodes ≡ node_count coords.now) × MarkFits l work.old b }
-    requires room_in_bounds { (64 * room ≤ length findings.old) × (n + 1 ≤ 2 ^ 57) }
-    ensures kept_any { KeptAny coords.now room n (mark_tells l (input l.at work.old) work.old c b) findings.old findings.new result }
-    ensures work_after { (work.new ≡ set work.old (l.marks + b) 0) × (result ≤ n + 1) }
+    requires few { sink.old.count < 2 ^ 57 }
+    ensures kept_any { KeptAny coords.now (mark_tells l (input l.at work.old) work.old c b) sink.old sink.new }
+    ensures work_after { (work.new ≡ set work.old (l.marks + b) 0) × (sink.new.count ≤ sink.old.count + 1) }
 {
     let m = l.marks + b;
     if work[m] == 0 {
-        return n;
+        return;
     }
-    let k = keep_pair(coords, work, l, c, b, findings, room, n);
+    keep_pair(coords, work, l, c, b, sink);
     work[m] = 0;
-    k
 }
 
 // The findings of the marked cells of a range, in order; all their marks become zero.
@@ -111,24 +100,17 @@ fn keep_range(
     l: layout::Layout,
     c: usize,
     r: Range,
-    findings: &mut [u8],
-    room: usize,
-    n: usize,
-) -> usize
+    sink: &mut Sink<'_>,
+)
     requires searching { Searching l work.old }
     requires c_bound { (c < l.at.cell_count) × (r.hi ≤ l.at.cell_count) × (l.at.nodes ≡ node_count coords.now) × MarksFit l work.old }
-    requires room_in_bounds { (64 * room ≤ length findings.old) × (n ≤ 2 ^ 56) }
-    ensures kept_any { KeptAny coords.now room n (each (mark_tells l (input l.at work.old) work.old c) (up_from r.lo (r.hi - r.lo))) findings.old findings.new result }
-    ensures cleared { Cleared l work.old r.lo r.hi work.new × (result ≤ n + 2 ^ 18) }
+    requires few { sink.old.count ≤ 2 ^ 56 }
+    ensures kept_any { KeptAny coords.now (each (mark_tells l (input l.at work.old) work.old c) (up_from r.lo (r.hi - r.lo))) sink.old sink.new }
+    ensures cleared { Cleared l work.old r.lo r.hi work.new × (sink.new.count ≤ sink.old.count + 2 ^ 18) }
 {
-    let hi = r.hi;
-    let mut k = n;
-    let mut b = r.lo;
-    while b < hi {
-        k = keep_marked(coords, work, l, c, b, findings, room, k);
-        b += 1;
+    for b in r.lo..r.hi {
+        keep_marked(coords, work, l, c, b, sink);
     }
-    k
 }
 
 // The findings of the marked cells, which are among `count` listed ones in order; all marks become zero.
@@ -138,31 +120,24 @@ fn keep_sorted(
     l: layout::Layout,
     c: usize,
     count: usize,
-    findings: &mut [u8],
-    room: usize,
-    n: usize,
-) -> usize
+    sink: &mut Sink<'_>,
+)
     requires searching { Searching l work.old }
     requires c_bound { (c < l.at.cell_count) × (count ≤ l.words) × (l.at.nodes ≡ node_count coords.now) × MarksFit l work.old × Listed l work.old count × Rising (pairs_at l.pairs count work.old) }
-    requires room_in_bounds { (64 * room ≤ length findings.old) × (n ≤ 2 ^ 56) }
-    ensures kept_any { KeptAny coords.now room n (each (mark_tells l (input l.at work.old) work.old c) (up_from 0 l.at.cell_count)) findings.old findings.new result }
-    ensures cleared { Cleared l work.old 0 l.at.cell_count work.new × (result ≤ n + 2 ^ 18) }
+    requires few { sink.old.count ≤ 2 ^ 56 }
+    ensures kept_any { KeptAny coords.now (each (mark_tells l (input l.at work.old) work.old c) (up_from 0 l.at.cell_count)) sink.old sink.new }
+    ensures cleared { Cleared l work.old 0 l.at.cell_count work.new × (sink.new.count ≤ sink.old.count + 2 ^ 18) }
 {
     let pairs = l.pairs;
-    let mut k = n;
     let mut next = 0;
-    let mut i = 0;
-    while i < count {
-        let b = counting::wide(work[pairs + 2 * i]);
-        if next <= b {
-            k = keep_marked(coords, work, l, c, b, findings, room, k);
-            next = b + 1;
-            i += 1;
-        } else {
-            i += 1;
+    for i in 0..count {
+        let b = work[pairs + 2 * i] as usize;
+        if b < next {
+            continue;
         }
+        keep_marked(coords, work, l, c, b, sink);
+        next = b + 1;
     }
-    k
 }
 
 // The same where they are listed in any order: the list is sorted first.
@@ -172,20 +147,18 @@ fn keep_listed(
     l: layout::Layout,
     c: usize,
     count: usize,
-    findings: &mut [u8],
-    room: usize,
-    n: usize,
-) -> usize
+    sink: &mut Sink<'_>,
+)
     requires searching { Searching l work.old }
     requires c_bound { (c < l.at.cell_count) × (count ≤ l.words) × (l.at.nodes ≡ node_count coords.now) × MarksFit l work.old × Listed l work.old count }
-    requires room_in_bounds { (64 * room ≤ length findings.old) × (n ≤ 2 ^ 56) }
-    ensures kept_any { KeptAny coords.now room n (each (mark_tells l (input l.at work.old) work.old c) (up_from 0 l.at.cell_count)) findings.old findings.new result }
-    ensures cleared { Cleared l work.old 0 l.at.cell_count work.new × (result ≤ n + 2 ^ 18) }
+    requires few { sink.old.count ≤ 2 ^ 56 }
+    ensures kept_any { KeptAny coords.now (each (mark_tells l (input l.at work.old) work.old c) (up_from 0 l.at.cell_count)) sink.old sink.new }
+    ensures cleared { Cleared l work.old 0 l.at.cell_count work.new × (sink.new.count ≤ sink.old.count + 2 ^ 18) }
 {
     let pairs = l.pairs;
     let spare = l.spare;
     pair_sort::sort_pairs(work, pairs, spare, count);
-    keep_sorted(coords, work, l, c, count, findings, room, n)
+    keep_sorted(coords, work, l, c, count, sink);
 }
 
 // Whether to go through the list: it has all marked cells and is short against the range.
@@ -210,31 +183,22 @@ pub fn keep_partly(
     by: index::Places,
     c: usize,
     by_nodes: bool,
-    findings: &mut [u8],
-    room: usize,
-    n: Counts,
-) -> Counts
+    tally: seek::Tally,
+    sink: &mut Sink<'_>,
+) -> seek::Tally
     requires standing { Standing l work.old }
     requires c_bound { (c < l.at.cell_count) × (l.at.nodes ≡ node_count coords.now) × Keyed l.at by (base l.at work.old) }
-    requires room_in_bounds { (64 * room ≤ length findings.old) × (n.findings ≤ 2 ^ 56) × (n.tally.nodes ≤ 2 ^ 20) × (n.tally.triples ≤ 2 ^ 20) }
-    ensures kept { Kept (plain_rules coords.now tol) room n.findings (partly_cell (plain_rules coords.now tol) l (input l.at work.old) c) findings.old findings.new result.findings }
-    ensures findings_bound { (result.findings ≤ n.findings + 2 ^ 18) × Still l work.old work.new }
-    ensures tallied_more { TalliedMore by_nodes (face_count l (input l.at work.old) c) n.tally result.tally }
+    requires few { (sink.old.count ≤ 2 ^ 56) × (tally.nodes ≤ 2 ^ 20) × (tally.triples ≤ 2 ^ 20) }
+    ensures kept { Kept (plain_rules coords.now tol) (partly_cell (plain_rules coords.now tol) l (input l.at work.old) c) sink.old sink.new }
+    ensures findings_bound { (sink.new.count ≤ sink.old.count + 2 ^ 18) × Still l work.old work.new }
+    ensures tallied_more { TalliedMore by_nodes (face_count l (input l.at work.old) c) tally result }
 {
-    let before = n.tally;
-    let s = note_cell(coords, tol, work, l, by, c, by_nodes, before);
+    let s = note_cell(coords, tol, work, l, by, c, by_nodes, tally);
     let r = s.range;
-    let tally = s.tally;
     if by_list(r, l) {
-        let k = keep_listed(coords, work, l, c, r.count, findings, room, n.findings);
-        return Counts {
-            findings: k,
-            tally: tally,
-        };
+        keep_listed(coords, work, l, c, r.count, sink);
+        return s.tally;
     }
-    let k = keep_range(coords, work, l, c, r, findings, room, n.findings);
-    Counts {
-        findings: k,
-        tally: tally,
-    }
+    keep_range(coords, work, l, c, r, sink);
+    s.tally
 }

@@ -1,7 +1,7 @@
 // The 64-byte record of a finding: written, and its fields read.
 #![tactic(auto)]
 
-ghost use Rattle.std.specs.Prelude.{◌≡◌, ◌+◌, ◌*◌, ◌^◌, ◌≤◌, length};
+ghost use Rattle.std.specs.Prelude.{◌≡◌, ◌+◌, ◌*◌, ◌^◌, ◌≤◌, ◌<◌, length};
 ghost use Rattle.std.proofs.Math.Seq.{slice};
 ghost use Rattle.std.proofs.lemmas.List.Edits.{sets};
 ghost use Rattle.laws.specs.Bytes.{number};
@@ -9,7 +9,16 @@ ghost use Rattle.findings.specs.Records.{point_bytes, record_bytes};
 ghost use Rattle.records.specs.Read.{fields_in};
 ghost use Rattle.records.specs.Keeping.{told, field_bytes, KeptOne};
 
-// A finding's fields: kind, first cell, second cell, item a, item b, count.
+// The kinds of findings; a record has the kind's number.
+#[derive(Clone, Copy, Debug, PartialEq, Eq)]
+pub enum Kind {
+    BowTie = 1,
+    Overfull = 2,
+    PartlyShared = 3,
+    Repeated = 4,
+}
+
+// A finding's fields: kind, first cell, second cell, item a, item b, count. Read from lent bytes the kind may be any number.
 #[derive(Clone, Copy)]
 pub struct Record {
     pub kind: u8,
@@ -63,22 +72,34 @@ pub fn put_record(out: &mut [u8], at: usize, r: Record, centre: geometry::Point)
     put_whole(&mut out[at..e], r, centre);
 }
 
-// One more finding behind n: its record is kept while there is room, and it is counted.
-pub fn keep_record(
-    findings: &mut [u8],
-    room: usize,
-    n: usize,
-    r: Record,
-    centre: geometry::Point,
-) -> usize
-    requires { (64 * room ≤ length findings.old) × (n + 1 ≤ 2 ^ 57) }
-    ensures { KeptOne room n r centre findings.old findings.new result }
-{
-    if n < room {
-        put_record(findings, 64 * n, r, centre);
-        return n + 1;
+// Where findings go: the records of the first are written, 64 bytes each, as long as there is room, and all are counted.
+#[derive(Drop)]
+pub struct Sink<'a> {
+    records: &'a mut [u8],
+    pub count: usize,
+}
+
+impl<'a> Sink<'a> {
+    // A sink with nothing in it.
+    pub fn new(records: &'a mut [u8]) -> Sink<'a>
+        ensures same_reference { result.records.ghost_name ≡ records.entry.ghost_name }
+        ensures empty { (result.records.now ≡ records.old) × (result.count ≡ 0) }
+    {
+        Sink { records, count: 0 }
     }
-    n + 1
+
+    // One more finding: its record is kept where there is room, and it is counted.
+    pub fn keep(&mut self, r: Record, centre: geometry::Point)
+        requires { self.old.count < 2 ^ 57 }
+        ensures { KeptOne r centre self.old self.new }
+    {
+        let n = self.count;
+        let room = self.records.len() / 64;
+        self.count = n + 1;
+        if n < room {
+            put_record(self.records, 64 * n, r, centre);
+        }
+    }
 }
 
 // Four bytes from `at` on, as a word.

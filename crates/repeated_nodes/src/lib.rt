@@ -13,60 +13,38 @@ ghost use Rattle.layout.specs.ByCell.{repeat_cell};
 ghost use Rattle.repeated_nodes.specs.OfCell.{of_cell};
 ghost use Rattle.layout.specs.Kept.{KeptAny};
 
+use records::{Kind, Record, Sink};
+
 // The finding of nodes a and b of cell c.
-fn keep_nodes(
-    coords: &[f64],
-    c: usize,
-    a: u32,
-    b: u32,
-    findings: &mut [u8],
-    room: usize,
-    n: usize,
-) -> usize
+fn keep_nodes(coords: &[f64], c: usize, a: u32, b: u32, sink: &mut Sink<'_>)
     requires c_bound { (c < 2 ^ 32) × (a < node_count coords.now) × (b < node_count coords.now) }
-    requires room_in_bounds { (64 * room ≤ length findings.old) × (n + 1 ≤ 2 ^ 57) }
-    ensures { KeptAny coords.now room n (repeated c a b ∷ []) findings.old findings.new result }
+    requires few { sink.old.count < 2 ^ 57 }
+    ensures { KeptAny coords.now (repeated c a b ∷ []) sink.old sink.new }
 {
     let first = geometry::point3(coords, a);
     let second = geometry::point3(coords, b);
     let middle = geometry::midpoint(first, second);
-    let r = records::Record {
-        kind: 4,
-        first: counting::narrow(c),
-        second: counting::narrow(c),
-        a: a,
-        b: b,
+    let r = Record {
+        kind: Kind::Repeated as u8,
+        first: c as u32,
+        second: c as u32,
+        a,
+        b,
         count: 2,
     };
-    records::keep_record(findings, room, n, r, middle)
+    sink.keep(r, middle);
 }
 
 // The findings of m pairs of nodes of cell c, which stand from `at` on.
-fn keep_pairs(
-    coords: &[f64],
-    work: &[u32],
-    at: usize,
-    m: usize,
-    c: usize,
-    findings: &mut [u8],
-    room: usize,
-    n: usize,
-) -> usize
+fn keep_pairs(coords: &[f64], work: &[u32], at: usize, m: usize, c: usize, sink: &mut Sink<'_>)
     requires c_bound { (c < 2 ^ 32) × (at + 2 * m ≤ length work.now) × AllBelow (node_count coords.now) (region at (2 * m) work.now) }
-    requires room_in_bounds { (64 * room ≤ length findings.old) × (n + m ≤ 2 ^ 57) }
-    ensures kept_any { KeptAny coords.now room n (map (of_cell c) (pairs_at at m work.now)) findings.old findings.new result }
-    ensures value { result ≡ n + m }
+    requires few { sink.old.count + m ≤ 2 ^ 57 }
+    ensures { KeptAny coords.now (map (of_cell c) (pairs_at at m work.now)) sink.old sink.new }
 {
-    let mut k = n;
-    let mut i = 0;
-    while i < m {
+    for i in 0..m {
         let o = at + 2 * i;
-        let a = work[o];
-        let b = work[o + 1];
-        k = keep_nodes(coords, c, a, b, findings, room, k);
-        i += 1;
+        keep_nodes(coords, c, work[o], work[o + 1], sink);
     }
-    k
 }
 
 // The repeated nodes of cell c, which has these words.
@@ -76,15 +54,13 @@ pub fn keep_repeated(
     work: &mut [u32],
     l: layout::Layout,
     c: usize,
-    findings: &mut [u8],
-    room: usize,
-    n: usize,
-) -> usize
+    sink: &mut Sink<'_>,
+)
     requires standing { Standing l work.old }
     requires c_bound { (c < l.at.cell_count) × (l.at.nodes ≡ node_count coords.now) × (length words.now ≤ l.words) × AllBelow l.at.nodes (nodes_in words.now) }
-    requires room_in_bounds { (64 * room ≤ length findings.old) × (n ≤ 2 ^ 56) }
-    ensures kept_any { KeptAny coords.now room n (repeat_cell l (input l.at work.old) c words.now) findings.old findings.new result }
-    ensures upper_bound { (result ≤ n + 2 ^ 20) × Still l work.old work.new }
+    requires few { sink.old.count ≤ 2 ^ 56 }
+    ensures kept_any { KeptAny coords.now (repeat_cell l (input l.at work.old) c words.now) sink.old sink.new }
+    ensures upper_bound { (sink.new.count ≤ sink.old.count + 2 ^ 20) × Still l work.old work.new }
 {
     let at = l.at;
     let scratch = repeats::Regions {
@@ -95,5 +71,5 @@ pub fn keep_repeated(
         spare: l.spare,
     };
     let m = repeats::list_repeats(words, work, scratch);
-    keep_pairs(coords, work, l.pairs, m, c, findings, room, n)
+    keep_pairs(coords, work, l.pairs, m, c, sink);
 }

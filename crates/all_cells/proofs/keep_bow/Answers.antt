@@ -28,7 +28,7 @@ returns-then-work-b-eq0 c =
     let is = word_is a.l w c.requires.faced (a.l.at.bows + a.c) (omega (arith, c.requires.faced.laid.bows_at, c.requires.c_bound.0)) in
     let none = bow_none a.l (input a.l.at w) a.c (sym is ∙ c.if-work-b-eq0.true) in
     record {
-      kept_ever = λ R. subst (λ (xs : List Finding). Kept R a.room a.n xs a.findings.now a.findings.now a.n) (sym none) (kept_none R a.room a.n a.findings.now);
+      kept_ever = λ R. subst (λ (xs : List Finding). Kept R xs a.sink.now a.sink.now) (sym none) (kept_none R a.sink.now);
       upper_bound = omega arith;
     }
 
@@ -39,9 +39,9 @@ returns c =
     let w = a.work.now in
     let is = word_is a.l w c.requires.faced (a.l.at.bows + a.c) (omega (arith, c.requires.faced.laid.bows_at, c.requires.c_bound.0)) in
     let one = bow_one a.l (input a.l.at w) a.c (λ z. c.if-work-b-eq0.false (is ∙ z)) in
-    let y = c.keep_record in
-    let kept : KeptEver a.room a.n (bowtie a.c ∷ []) a.findings.now y.new.findings y.result = λ R. y.ensures R (bowtie a.c) (bow_fields a.c _ c.narrow.ensures) (bow_centre R a.c) in
+    let y = c.keep in
+    let kept : KeptEver (bowtie a.c ∷ []) a.sink.now y.new.self = λ R. y.ensures R (bowtie a.c) (bow_fields a.c) (bow_centre R a.c) in
     record {
-      kept_ever = λ R. subst (λ (xs : List Finding). Kept R a.room a.n xs a.findings.now y.new.findings y.result) (sym one) (kept R);
+      kept_ever = λ R. subst (λ (xs : List Finding). Kept R xs a.sink.now y.new.self) (sym one) (kept R);
       upper_bound = omega (arith, (kept (plain_rules [] zero64)).count);
     }

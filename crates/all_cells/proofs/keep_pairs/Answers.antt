@@ -1,12 +1,11 @@
 -- `all_cells::keep_pairs` meets its contract.
-use Prim.Native.Nat.{ℕ, ◌+◌}
+use Prim.Native.Nat.{ℕ, ◌+◌, ◌<◌}
 use mathlib.Core.List.{List}
-use mathlib.Core.Path.{◌≡◌, refl, sym, ap, ◌∙◌, subst}
+use mathlib.Core.Path.{◌≡◌, sym, ap, ◌∙◌, subst}
 use native.Mathlib.Omega.{arith}
 use Rattle.index.specs.Faces.{input}
-use Rattle.seek.specs.declared.Tally.{Tally}
 use Rattle.seek.specs.Candidates.{TalliedMore, Tallied}
-use Rattle.seek.proofs.Tallies.{tallied_none, tallied_then, tallied_most}
+use Rattle.seek.proofs.Tallies.{tallied_zero, tallied_then, tallied_most}
 use Rattle.triple_keys.specs.Keys.{Keyed}
 use Rattle.layout.specs.Tables.{first_of, face_count}
 use Rattle.layout.specs.ByCell.{plain_rules, partly_cell}
@@ -14,33 +13,29 @@ use Rattle.layout.proofs.Again.{still_then}
 use Rattle.layout.proofs.Reading.{first_most}
 use Rattle.records.specs.Keeping.{Kept}
 use Rattle.records.proofs.Keeping.{kept_none}
-use Rattle.all_cells.proofs.Passing.{pass_next, pass_end, kept_long, still_self, still_input}
+use Rattle.all_cells.proofs.Passing.{pass_next, pass_end, still_self, still_input}
 use Rattle.all_cells.proofs.keep_pairs.Goals as goal
 
 pub loop-c-init : goal.loop-c-init
 loop-c-init c =
     let a = c.args in
-    let none : Tally = record { nodes = 0; triples = 0 } in (
-      kept_none (plain_rules a.coords.now a.tol) a.room a.n a.findings.now,
-      omega arith,
-      omega arith,
-      refl,
-      still_self a.l a.work.now c.requires.standing,
-      refl,
-      subst (λ (i : ℕ). Tallied a.by_nodes i none) (sym c.requires.standing.faced.first_zero) (tallied_none a.by_nodes none),
-    )
+    let none = c.unsought-tally in record {
+      kept = kept_none (plain_rules a.coords.now a.tol) a.sink.now;
+      few = omega arith;
+      still = still_self a.l a.work.now c.requires.standing;
+      tallied = tallied_zero a.by_nodes c.requires.standing.faced.first_zero none.result none.ensures.0 none.ensures.1;
+    }
 
-pub keep_partly-k-requires : goal.keep_partly-k-requires
-keep_partly-k-requires c =
+pub keep_partly-tally-requires : goal.keep_partly-tally-requires
+keep_partly-tally-requires c =
     let o = c.loop-c in
-    let h = c.loop-c-test.true in
-    let most = tallied_most c.args.by_nodes _ _ o.k.tally o.invariant.6 in
-    let few = first_most c.args.l c.args.work.now c.requires.standing.faced o.c (omega (arith, h)) in record {
-      standing = o.invariant.4.standing;
-      c_bound = (omega (arith, h), c.requires.nodes_value.0, subst (Keyed c.args.l.at c.args.by) (sym o.invariant.4.same) c.requires.nodes_value.1);
-      room_in_bounds = (
-        omega (arith, c.requires.room_in_bounds.0, o.invariant.3),
-        omega (arith, o.invariant.1, h, c.requires.standing.spaced.few_cells, c.requires.room_in_bounds.1),
+    let more : o.c < c.args.l.at.cell_count = omega arith in
+    let most = tallied_most c.args.by_nodes _ _ o.tally o.invariant.tallied in
+    let few = first_most c.args.l c.args.work.now c.requires.standing.faced o.c (omega (arith, more)) in record {
+      standing = o.invariant.still.standing;
+      c_bound = (more, c.requires.nodes_value.0, subst (Keyed c.args.l.at c.args.by) (sym o.invariant.still.same) c.requires.nodes_value.1);
+      few = (
+        omega (arith, o.invariant.few, more, c.requires.standing.spaced.few_cells),
         omega (arith, most.0, few, c.requires.standing.spaced.few_faces),
         omega (arith, most.1, few, c.requires.standing.spaced.few_faces),
       );
@@ -50,33 +45,31 @@ pub loop-c-preserved : goal.loop-c-preserved
 loop-c-preserved c =
     let a = c.args in
     let o = c.loop-c in
-    let h = c.loop-c-test.true in
-    let y = c.keep_partly-k in
+    let more : o.c < a.l.at.cell_count = omega arith in
+    let y = c.keep_partly-tally in
     let R = plain_rules a.coords.now a.tol in
-    let g = y.new.findings in
+    let g = y.new.sink in
     let t = input a.l.at a.work.now in
-    let same = still_input a.l a.work.now o.work c.requires.standing o.invariant.4 in
-    let more = subst (λ (u : List ℕ). TalliedMore a.by_nodes (face_count a.l u o.c) o.k.tally y.result.tally) same y.ensures.tallied_more in
-    let next = subst (λ (t : List ℕ). Kept R a.room o.k.findings (partly_cell R a.l t o.c) o.findings g y.result.findings) same y.ensures.kept in
-    let still = still_then a.l a.work.now o.work y.new.work o.invariant.4 y.ensures.findings_bound.1 in (
-      pass_next R a.room a.n o.k.findings y.result.findings (partly_cell R a.l (input a.l.at a.work.now)) o.c a.findings.now o.findings g o.invariant.0 next,
-      omega (arith, o.invariant.1, y.ensures.findings_bound.0),
-      omega (arith, h),
-      kept_long R a.room o.k.findings y.result.findings _ o.findings g y.ensures.kept ∙ o.invariant.3,
-      still,
-      still.long,
-      tallied_then a.by_nodes (first_of a.l t o.c) (face_count a.l t o.c) (first_of a.l t (o.c + 1)) _ o.k.tally y.result.tally (omega (arith, c.requires.standing.faced.first_rising o.c h)) o.invariant.6 more,
-    )
+    let same = still_input a.l a.work.now o.work c.requires.standing o.invariant.still in
+    let counted = subst (λ (u : List ℕ). TalliedMore a.by_nodes (face_count a.l u o.c) o.tally y.result) same y.ensures.tallied_more in
+    let next = subst (λ (t : List ℕ). Kept R (partly_cell R a.l t o.c) o.sink g) same y.ensures.kept in
+    record {
+      kept = pass_next R (partly_cell R a.l t) o.c a.sink.now o.sink g o.invariant.kept next;
+      few = omega (arith, o.invariant.few, y.ensures.findings_bound.0);
+      still = still_then a.l a.work.now o.work y.new.work o.invariant.still y.ensures.findings_bound.1;
+      tallied = tallied_then a.by_nodes (first_of a.l t o.c) (face_count a.l t o.c) (first_of a.l t (o.c + 1)) _ o.tally y.result
+          (omega (arith, c.requires.standing.faced.first_rising o.c more)) o.invariant.tallied counted;
+    }
 
 pub returns : goal.returns
 returns c =
     let a = c.args in
     let o = c.loop-c in
     let R = plain_rules a.coords.now a.tol in
-    let done : o.c ≡ a.l.at.cell_count = omega (arith, o.invariant.2, c.loop-c-test.false) in
+    let done : o.c ≡ a.l.at.cell_count = omega arith in
     let all : first_of a.l (input a.l.at a.work.now) o.c ≡ a.l.at.faces = ap (first_of a.l (input a.l.at a.work.now)) done ∙ c.requires.standing.faced.first_last in
     record {
-      kept = pass_end R a.room a.n o.k.findings (partly_cell R a.l (input a.l.at a.work.now)) o.c a.l.at.cell_count a.findings.now o.findings done o.invariant.0;
-      findings_bound = (omega (arith, o.invariant.1, done, c.requires.standing.spaced.few_cells), o.invariant.4);
-      tallied = subst (λ (i : ℕ). Tallied a.by_nodes i o.k.tally) all o.invariant.6;
+      kept = pass_end R (partly_cell R a.l (input a.l.at a.work.now)) o.c a.l.at.cell_count a.sink.now o.sink done o.invariant.kept;
+      findings_bound = (omega (arith, o.invariant.few, done, c.requires.standing.spaced.few_cells), o.invariant.still);
+      tallied = subst (λ (i : ℕ). Tallied a.by_nodes i o.tally) all o.invariant.tallied;
     }

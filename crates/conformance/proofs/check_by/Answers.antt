@@ -1,5 +1,5 @@
 -- `conformance::check_by` meets its contract.
-use Prim.Native.Nat.{ℕ, ◌-◌, ◌≤◌}
+use Prim.Native.Nat.{ℕ, ◌-◌, ◌*◌, ◌≤◌}
 use mathlib.Core.Path.{◌≡◌, refl, sym, ap, ◌∙◌, subst}
 use mathlib.Core.List.{◌++◌}
 use native.Mathlib.Omega.{arith}
@@ -14,7 +14,7 @@ use Rattle.mesh.proofs.Accepts.{accepts}
 use Rattle.seek.proofs.Tallies.{tallied_as}
 use Rattle.mesh.proofs.CellWords.{few_nodes}
 use Rattle.mesh.proofs.Accepted.{work_is_lem}
-use Rattle.conformance.proofs.Answers.{row_model, row_work, row_none, checked_so, cap_refusal, cap_work, cap_kept}
+use Rattle.conformance.proofs.Answers.{row_model, row_work, row_none, checked_so, cap_refusal, cap_work, cap_found}
 use Rattle.conformance.proofs.Ways.{refused_by, checked_by, cap_way, cap_sought}
 use Rattle.conformance.proofs.check_by.Goals as goal
 
@@ -63,7 +63,7 @@ find-total-requires c =
     let n = c.work_needed-need.result in
     let need = c.work_needed-need.ensures ∙ work_is_lem uncapped c.accept-t.result t accepted in
     let enough : work_needed uncapped ≤ length (take (n - 0) a.work.now) = omega (arith, need, length-take (n - 0) a.work.now, c.if-work-need.false) in
-    (refl, ((sym t.refusal ∙ accepted, t, enough), omega (arith, c.lesser-room.ensures)))
+    (refl, (sym t.refusal ∙ accepted, t, enough))
 
 pub returns : goal.returns
 returns c =
@@ -83,6 +83,7 @@ returns c =
     let enough : n ≤ length a.work.now = omega (arith, c.if-work-need.false) in
     let part = y.new.work in
     let found = y.new.findings in
+    let back = found ++ drop (64 * room.result) a.findings.now in
     let long : length part ≡ n = omega (arith, y.auto.work, length-take (n - 0) a.work.now, enough) in
     let left = c.clear.new.work in
     let whole : n - 0 ≡ n = omega arith in
@@ -90,8 +91,8 @@ returns c =
     let zero = zero_front a.work.now part left n enough long cleared in
     let none = row_none m a.work.now ok (omega (arith, need, enough)) in
     let k = y.result.findings in
-    let found_by = cap_kept a.coords.now a.kinds.now a.ends.now a.words.now a.tol a.checks.0 a.cap room.result k a.findings.now found y.ensures.kept_by in
-    checked_by a.choice m a.findings.now found a.work.now left _ none
+    let found_by = cap_found a.coords.now a.kinds.now a.ends.now a.words.now a.tol a.checks.0 a.cap _ found k y.ensures.found in
+    checked_by a.choice m a.findings.now back a.work.now left _ none
     (checked_so m a.findings.now found a.work.now room.result k kept.result none room.ensures found_by kept.ensures
     left (subst (λ (k : ℕ). left ≡ replicate k 0 ++ drop (length (replicate k 0)) a.work.now) need zero))
     (tallied_as (cap_way a.coords.now a.kinds.now a.ends.now a.words.now a.tol a.checks.0 a.cap a.choice)

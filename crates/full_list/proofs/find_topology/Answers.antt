@@ -17,8 +17,8 @@ use Rattle.full_list.proofs.Ways.{way_is}
 use Rattle.full_list.proofs.Whole.{three_kept}
 use Rattle.full_list.proofs.find_topology.Goals as goal
 
-pub keep_repeats-k-requires-clause-nodes_value : goal.keep_repeats-k-requires-clause-nodes_value
-keep_repeats-k-requires-clause-nodes_value g c =
+pub keep_repeats-requires-clause-nodes_value : goal.keep_repeats-requires-clause-nodes_value
+keep_repeats-requires-clause-nodes_value g c =
     let a = c.args in
     let m : Model = model_of a.coords.now a.kinds.now a.ends.now a.words.now a.tol a.checks.0 0 in
     let r : Ready m a.l a.work.now = subst (λ (m : Model). Ready m a.l a.work.now) (sym c.requires.0) c.requires.1.0 in
@@ -33,21 +33,21 @@ returns g c =
     let built = (subst (λ (m : Model). Ready m l a.work.now) (sym is) c.requires.1.0).built in
     let x = c.index_faces-s in
     let v = x.new.work in
-    let y = c.keep_overs-a in
-    let z = c.keep_pairs-b in
-    let r = c.keep_repeats-k in
+    let y = c.keep_overs in
+    let z = c.keep_pairs-tally in
+    let r = c.keep_repeats in
     let S1 : Shows m l (input l.at v) = subst (Shows m l) (sym x.ensures.work_unchanged) built.shows in
     let S2 : Shows m l (input l.at z.new.work) = subst (Shows m l) (sym (still_input l v z.new.work x.ensures.standing.0 z.ensures.findings_bound.1)) S1 in
-    let f = a.findings.now in
-    let h = y.new.findings in
-    let i = z.new.findings in
-    let e = r.new.findings in
+    let f = a.sink.now in
+    let h = y.new.sink in
+    let i = z.new.sink in
+    let e = r.new.sink in
     let way = c.by_nodes-by_nodes.ensures ∙ way_is m l (input l.at a.work.now) built.tabled.faced built.shows a.choice x.result.by_nodes x.ensures.by_nodes_value in record {
-      kept_by = subst (λ (m : Model). KeptBy m a.room a.n (topology_of m) f e r.result) is
-          (three_kept m a.room a.n y.result z.result.findings r.result f h i e
-          (overs_kept m l (input l.at v) S1 a.room a.n y.result f h y.ensures.kept_any)
-          (pairs_kept m l (input l.at v) S1 a.room y.result z.result.findings h i z.ensures.kept)
-          (repeats_kept m l (input l.at z.new.work) S2 a.room z.result.findings r.result i e r.ensures.kept_any));
-      tallied = subst (λ (m : Model). Tallied (goes_by_nodes a.choice m) (length (faces_in m)) z.result.tally) is
+      kept_by = subst (λ (m : Model). KeptBy m (topology_of m) f e) is
+          (three_kept m f h i e
+          (overs_kept m l (input l.at v) S1 f h y.ensures.kept_any)
+          (pairs_kept m l (input l.at v) S1 h i z.ensures.kept)
+          (repeats_kept m l (input l.at z.new.work) S2 i e r.ensures.kept_any));
+      tallied = subst (λ (m : Model). Tallied (goes_by_nodes a.choice m) (length (faces_in m)) z.result) is
           (tallied_as way (faces_shown m l (input l.at a.work.now) built.shows) z.ensures.tallied);
     }

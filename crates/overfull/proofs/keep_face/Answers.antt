@@ -1,5 +1,5 @@
 -- `overfull::keep_face` meets its contract: the count settles whether there is a finding, and the record has its fields (Found).
-use mathlib.Core.Path.{refl, sym, ◌∙◌}
+use mathlib.Core.Path.{refl, sym}
 use native.Mathlib.Omega.{arith}
 use Rattle.index.specs.Faces.{input}
 use Rattle.layout.specs.ByCell.{over_face}
@@ -22,10 +22,7 @@ returns-then-s-lt3 c =
     let t = input a.l.at a.work.now in
     let s = c.count_alike-s in
     let e = over_few a.l t r.standing.faced a.g h s.result s.ensures (omega (arith, c.if-s-lt3.true)) in
-    record { kept_any = none_kept a.coords.now a.room a.n (over_face a.l t a.g) a.findings.now e; upper_bound = omega arith }
-
-pub narrow-requires : goal.narrow-requires
-narrow-requires c = omega (arith, c.requires.face_of.0.cell, c.requires.standing.spaced.few_cells)
+    record { kept_any = none_kept a.coords.now (over_face a.l t a.g) a.sink.now e; upper_bound = omega arith }
 
 pub cell_of-requires : goal.cell_of-requires
 cell_of-requires c =
@@ -36,18 +33,15 @@ cell_of-requires c =
     let m = over_many a.l (input a.l.at a.work.now) r.standing.faced a.g h s.result s.ensures (omega (arith, c.if-s-lt3.false)) in
     record { faced = r.standing.faced; g_lt_faces = m.second }
 
-pub narrow-requires-2 : goal.narrow-requires-2
-narrow-requires-2 c = omega (arith, c.cell_of.ensures.1, c.requires.standing.spaced.few_cells)
-
-pub narrow-requires-3 : goal.narrow-requires-3
-narrow-requires-3 c =
+pub overflow_cast-r-3 : goal.overflow_cast-r-3
+overflow_cast-r-3 c =
     let a = c.args in
     let r = c.requires in
     let h = face_in a.l a.work.now r.standing.faced a.c a.g r.face_of.0 in
     omega (arith, h, r.standing.spaced.few_faces)
 
-pub narrow-requires-4 : goal.narrow-requires-4
-narrow-requires-4 c =
+pub overflow_cast-r-4 : goal.overflow_cast-r-4
+overflow_cast-r-4 c =
     let a = c.args in
     let r = c.requires in
     let h = face_in a.l a.work.now r.standing.faced a.c a.g r.face_of.0 in
@@ -70,10 +64,10 @@ returns c =
     let o = r.face_of.0 in
     let T = c.count_alike-s.result in
     let m = over_many a.l (input a.l.at a.work.now) r.standing.faced a.g h T c.count_alike-s.ensures (omega (arith, c.if-s-lt3.false)) in
-    let k = many_kept a.coords.now a.room a.n a.l (input a.l.at a.work.now) a.g T m
-    (record { kind = 2; first = c.narrow.result; second = c.narrow-2.result; a = c.narrow-3.result; b = 0; count = c.narrow-4.result })
-    c.centre_of.result a.findings.now c.keep_record.new.findings c.keep_record.result refl
-    (c.narrow.ensures ∙ sym (r.standing.faced.owned a.c a.g o.cell o.from o.before))
-    (c.narrow-2.ensures ∙ c.cell_of.ensures.0) c.narrow-3.ensures refl c.narrow-4.ensures
-    c.centre_of.ensures c.keep_record.ensures in
+    let k = many_kept a.coords.now a.l (input a.l.at a.work.now) a.g T m
+    (record { kind = 2; first = a.c; second = c.cell_of.result; a = a.g; b = 0; count = T.count })
+    c.centre_of.result a.sink.now c.keep.new.self refl
+    (sym (r.standing.faced.owned a.c a.g o.cell o.from o.before))
+    c.cell_of.ensures.0 refl refl refl
+    c.centre_of.ensures c.keep.ensures in
     record { kept_any = k.0; upper_bound = k.1 }

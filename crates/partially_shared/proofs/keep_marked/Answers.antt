@@ -18,24 +18,24 @@ returns-then-work-m-eq0 c =
     let w = a.work.now in
     let none = tells_none a.l (input a.l.at w) w a.c a.b c.if-work-m-eq0.true in
     record {
-      kept_any = λ tol. subst (λ (xs : List Finding). Kept (plain_rules a.coords.now tol) a.room a.n xs a.findings.now a.findings.now a.n) (sym none) (kept_none (plain_rules a.coords.now tol) a.room a.n a.findings.now);
+      kept_any = λ tol. subst (λ (xs : List Finding). Kept (plain_rules a.coords.now tol) xs a.sink.now a.sink.now) (sym none) (kept_none (plain_rules a.coords.now tol) a.sink.now);
       work_after = (set_none w (a.l.marks + a.b) c.if-work-m-eq0.true, omega arith);
     }
 
-pub keep_pair-k-requires : goal.keep_pair-k-requires
-keep_pair-k-requires c =
+pub keep_pair-requires : goal.keep_pair-requires
+keep_pair-requires c =
     let q = c.requires.c_bound in
     let h = c.if-work-m-eq0.false in
-    record { searching = c.requires.searching; c_bound = (q.0, q.1, q.2, h, (q.3 h).0, (q.3 h).1); room_in_bounds = c.requires.room_in_bounds }
+    record { searching = c.requires.searching; c_bound = (q.0, q.1, q.2, h, (q.3 h).0, (q.3 h).1); few = c.requires.few }
 
 pub returns : goal.returns
 returns c =
     let a = c.args in
     let w = a.work.now in
-    let y = c.keep_pair-k in
+    let y = c.keep_pair in
     let one = tells_one a.l (input a.l.at w) w a.c a.b c.if-work-m-eq0.false in
-    let k : y.result ≡ a.n + 1 = (y.ensures zero64).count in
+    let k : y.new.sink.count ≡ a.sink.now.count + 1 = (y.ensures zero64).count in
     record {
-      kept_any = λ tol. subst (λ (xs : List Finding). Kept (plain_rules a.coords.now tol) a.room a.n xs a.findings.now y.new.findings y.result) (sym one) (y.ensures tol);
+      kept_any = λ tol. subst (λ (xs : List Finding). Kept (plain_rules a.coords.now tol) xs a.sink.now y.new.sink) (sym one) (y.ensures tol);
       work_after = (refl, omega (arith, k));
     }

@@ -1,6 +1,5 @@
 -- `partially_shared::keep_pair` meets its contract.
-use Prim.Native.Nat.{◌+◌, ◌-◌}
-use mathlib.Core.Path.{refl}
+use Prim.Native.Nat.{◌+◌}
 use lib.ListN.{get_or}
 use Rattle.index.specs.Faces.{input}
 use Rattle.layout.specs.ByCell.{plain_rules}
@@ -9,12 +8,12 @@ use Rattle.partially_shared.proofs.Told.{told_fields, told_centre}
 use Rattle.partially_shared.proofs.keep_pair.Goals as goal
 
 pub returns : goal.returns
-returns c tol = let a = c.args in
+returns c tol =
+    let a = c.args in
     let w = a.work.now in
-    let t = input a.l.at w in
     let m = get_or w (a.l.marks + a.b) 0 in
     let o = get_or w (a.l.others + a.b) 0 in
-    let s = c.shared_of-s in
-    c.keep_record.ensures (plain_rules a.coords.now tol) (told_by a.l t a.c a.b m o)
-    (told_fields a.l w a.c a.b m o (m - 1) o _ _ _ _ _ c.requires.searching.below refl refl refl refl refl refl s.ensures.count_value.0)
-    (told_centre a.l w a.coords.now tol a.c a.b m o (m - 1) o _ c.requires.searching.below refl refl s.ensures.centre_value)
+    let s = c.shared_of-s.ensures in
+    c.keep.ensures (plain_rules a.coords.now tol) (told_by a.l (input a.l.at w) a.c a.b m o)
+    (told_fields a.l w a.c a.b m o _ c.requires.searching.below s.count_value.0)
+    (told_centre a.l w a.coords.now tol a.c a.b m o _ c.requires.searching.below s.centre_value)

@@ -14,8 +14,8 @@ use Rattle.partially_shared.proofs.Whole.{all_told, whole_told, marks_fit}
 use Rattle.partially_shared.proofs.Left.{left_still}
 use Rattle.partially_shared.proofs.keep_partly.Goals as goal
 
-pub keep_listed-k-requires : goal.keep_listed-k-requires
-keep_listed-k-requires c =
+pub keep_listed-requires : goal.keep_listed-requires
+keep_listed-requires c =
     let a = c.args in
     let R = plain_rules a.coords.now a.tol in
     let y = c.note_cell-s in
@@ -24,7 +24,7 @@ keep_listed-k-requires c =
     record {
       searching = searching_on a.l a.work.now y.new.work s y.ensures.beside.0;
       c_bound = (c.requires.c_bound.0, few, c.requires.c_bound.1, marks_fit R a.l (input a.l.at a.work.now) c.requires.standing.faced a.c c.requires.c_bound.0 y.new.work y.result.range y.ensures.marked, y.ensures.marked.listed few);
-      room_in_bounds = (c.requires.room_in_bounds.0, c.requires.room_in_bounds.1);
+      few = c.requires.few.0;
     }
 
 pub returns-then-by_list : goal.returns-then-by_list
@@ -33,7 +33,7 @@ returns-then-by_list c =
     let w = a.work.now in
     let R = plain_rules a.coords.now a.tol in
     let y = c.note_cell-s in
-    let z = c.keep_listed-k in
+    let z = c.keep_listed in
     let v = y.new.work in
     let s = searches a.l w c.requires.standing in
     let same = input_on a.l w v s y.ensures.beside.0 in
@@ -41,7 +41,7 @@ returns-then-by_list c =
     ap (λ (t : List ℕ). each (mark_tells a.l t v a.c) (up_from 0 a.l.at.cell_count)) same
     ∙ all_told R a.l (input a.l.at w) c.requires.standing.faced a.c c.requires.c_bound.0 v y.result.range y.ensures.marked in
     let q = z.ensures.cleared.0 in record {
-      kept = subst (λ (xs : List Finding). Kept R a.room a.n.findings xs a.findings.now z.new.findings z.result) told (z.ensures.kept_any a.tol);
+      kept = subst (λ (xs : List Finding). Kept R xs a.sink.now z.new.sink) told (z.ensures.kept_any a.tol);
       findings_bound = (
         z.ensures.cleared.1,
         left_still a.l w v z.new.work _ y.result.range c.requires.standing y.ensures.beside.0 y.ensures.marked record { beside = q.beside; cleared = λ i h k j. q.cleared i h (omega arith) h; still = q.still },
@@ -49,8 +49,8 @@ returns-then-by_list c =
       tallied_more = y.ensures.tallied_more;
     }
 
-pub keep_range-k-requires : goal.keep_range-k-requires
-keep_range-k-requires c =
+pub keep_range-requires : goal.keep_range-requires
+keep_range-requires c =
     let a = c.args in
     let R = plain_rules a.coords.now a.tol in
     let y = c.note_cell-s in
@@ -58,7 +58,7 @@ keep_range-k-requires c =
     record {
       searching = searching_on a.l a.work.now y.new.work s y.ensures.beside.0;
       c_bound = (c.requires.c_bound.0, y.ensures.beside.1, c.requires.c_bound.1, marks_fit R a.l (input a.l.at a.work.now) c.requires.standing.faced a.c c.requires.c_bound.0 y.new.work y.result.range y.ensures.marked);
-      room_in_bounds = (c.requires.room_in_bounds.0, c.requires.room_in_bounds.1);
+      few = c.requires.few.0;
     }
 
 pub returns : goal.returns
@@ -67,14 +67,14 @@ returns c =
     let w = a.work.now in
     let R = plain_rules a.coords.now a.tol in
     let y = c.note_cell-s in
-    let z = c.keep_range-k in
+    let z = c.keep_range in
     let v = y.new.work in
     let s = searches a.l w c.requires.standing in
     let same = input_on a.l w v s y.ensures.beside.0 in
     let told : each (mark_tells a.l (input a.l.at v) v a.c) (up_from y.result.range.lo (y.result.range.hi - y.result.range.lo)) ≡ partly_cell R a.l (input a.l.at w) a.c =
     ap (λ (t : List ℕ). each (mark_tells a.l t v a.c) (up_from y.result.range.lo (y.result.range.hi - y.result.range.lo))) same
     ∙ whole_told R a.l (input a.l.at w) c.requires.standing.faced a.c c.requires.c_bound.0 v y.result.range y.ensures.marked y.ensures.beside.1 in record {
-      kept = subst (λ (xs : List Finding). Kept R a.room a.n.findings xs a.findings.now z.new.findings z.result) told (z.ensures.kept_any a.tol);
+      kept = subst (λ (xs : List Finding). Kept R xs a.sink.now z.new.sink) told (z.ensures.kept_any a.tol);
       findings_bound = (z.ensures.cleared.1, left_still a.l w v z.new.work _ y.result.range c.requires.standing y.ensures.beside.0 y.ensures.marked z.ensures.cleared.0);
       tallied_more = y.ensures.tallied_more;
     }

@@ -23,5 +23,5 @@ returns c =
     ∙ ap (λ (l : List ℕ). sets l 32 (point_bytes a.centre)) (c.put_bytes-2.ensures
     ∙ ap (λ (l : List ℕ). sets l 24 (bytes 8 0)) (c.put_words.ensures
     ∙ ap (λ (l : List ℕ). sets l 4 (field_bytes f)) c.put_bytes.ensures)))
-    ∙ ap (λ (k : List ℕ). rest (sets s 0 k)) (one_of_four f.kind (omega (arith, c.struct_known-1.given.0)))
+    ∙ ap (λ (k : List ℕ). rest (sets s 0 k)) (one_of_four f.kind (omega arith))
     ∙ sets_all s (record_bytes f a.centre) (sym c.requires)

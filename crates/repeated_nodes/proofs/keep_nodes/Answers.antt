@@ -1,5 +1,5 @@
 -- `repeated_nodes::keep_nodes` meets its contract: the record has the finding's fields and centre.
-use mathlib.Core.Path.{sym, ap₂, ◌∙◌}
+use mathlib.Core.Path.{refl, sym, ap₂, ◌∙◌}
 use Rattle.geometry.specs.declared.Point.{Point}
 use Rattle.geometry.specs.Points.{midpoint_of}
 use Rattle.findings.specs.Findings.{repeated}
@@ -12,6 +12,6 @@ pub returns : goal.returns
 unfolding fields_of centre_in rules_with
 returns c tol =
     let a = c.args in
-    c.keep_record.ensures (plain_rules a.coords.now tol) (repeated a.c a.a a.b)
-    (λ i. record { kind = 4; first = sym c.narrow.ensures i; second = sym c.narrow-2.ensures i; a = a.a; b = a.b; count = 2 })
+    c.keep.ensures (plain_rules a.coords.now tol) (repeated a.c a.a a.b)
+    refl
     (sym (c.midpoint-middle.ensures ∙ ap₂ (λ (s t : Point). midpoint_of s t) c.point3-first.ensures c.point3-second.ensures))

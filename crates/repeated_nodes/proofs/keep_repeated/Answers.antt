@@ -3,6 +3,7 @@ use Prim.Native.Nat.{ℕ, ◌*◌}
 use mathlib.Core.Path.{subst}
 use native.Mathlib.Omega.{arith}
 use Rattle.laws.specs.Merging.{region, AllBelow}
+use Rattle.repeated_nodes.proofs.Listed.{pairs_counted}
 use Rattle.repeated_nodes.proofs.Scratch.{ready, pairs_in_lem, pairs_below, pairs_found, still_listed}
 use Rattle.repeated_nodes.proofs.keep_repeated.Goals as goal
 
@@ -24,7 +25,7 @@ keep_pairs-requires c =
         pairs_in_lem a.l a.work.now a.words.now c.requires.standing p.2 p.3 v m e,
         subst (λ (k : ℕ). AllBelow k (region a.l.pairs (2 * m) v)) p.1 (pairs_below a.l a.work.now a.words.now c.requires.standing p.2 p.3 v m e),
       );
-      room_in_bounds = (c.requires.room_in_bounds.0, omega (arith, c.requires.room_in_bounds.1, p.2, sp.few, e.few));
+      few = omega (arith, p.2, sp.few, e.few);
     }
 
 pub returns : goal.returns
@@ -35,9 +36,9 @@ returns c =
     let m = c.list_repeats-m.result in
     let e = c.list_repeats-m.ensures in
     let found = pairs_found a.l a.work.now a.words.now c.requires.standing p.2 p.3 v m e a.c in record {
-      kept_any = (λ tol. rw found at (c.keep_pairs.ensures.kept_any tol));
+      kept_any = (λ tol. rw found at (c.keep_pairs.ensures tol));
       upper_bound = (
-        omega (arith, c.keep_pairs.ensures.value, e.few, p.2, c.requires.standing.spaced.few),
+        omega (arith, pairs_counted a.coords.now a.c a.l.pairs m v a.sink.now _ c.keep_pairs.ensures, e.few, p.2, c.requires.standing.spaced.few),
         still_listed a.l a.work.now a.words.now c.requires.standing p.2 p.3 v m e,
       );
     }
