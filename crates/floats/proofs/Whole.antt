@@ -2,7 +2,7 @@
 use mathlib.Core.Path.{◌≡◌, sym, ap, ◌∙◌, subst}
 use mathlib.Core.Bool.{Bool, true, false, not, cond}
 use Prim.Native.Nat.{ℕ, zero, suc, ◌+◌, ◌*◌, ◌/◌, ◌-◌, ◌%◌, ◌^◌, ◌≤◌, ◌<◌, zero-le}
-use native.Mathlib.Nat.{le_trans, lt_of_le_of_lt, lt_of_lt_of_le, le_antisymm, lt_of_not-le, not-le_of_lt, le_of_suc-le-suc, mul-le-mul_left, mul-le-mul_right, mul_assoc, mul-one, zero-mul, add-zero, pow-suc}
+use native.Mathlib.Nat.{le_trans, lt_of_le_of_lt, lt_of_lt_of_le, le_antisymm, lt_of_not-le, not-le_of_lt, le_of_suc-le-suc, mul-le-mul_left, mul-le-mul_right, mul_assoc, mul-one, add-zero, pow-suc}
 use native.Mathlib.Omega.{arith}
 use lib.Dec.{T, leb, leb→le, nleb→lt}
 use lib.Pow.{pow_mono}

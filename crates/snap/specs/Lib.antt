@@ -1,3 +1,4 @@
--- Welded numbers over a list of nodes. Steps is for internal contracts only.
+-- Welded numbers over a list of nodes. Steps and Walks are for internal contracts only.
 pub mod Weld
 pub mod Steps
+pub mod Walks

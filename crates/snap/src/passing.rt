@@ -1,10 +1,10 @@
 // Nodes that a leader passes over: in the order of nodes, those of one x whose y or z lies too far from the leader's stand together.
-ghost use Rattle.std.specs.Prelude.{◌≡◌, false, ◌≤◌, ◌<◌, length, get_or};
+ghost use Rattle.std.specs.Prelude.{ℕ, ◌≡◌, false, ◌≤◌, ◌<◌, length, get_or};
 ghost use Rattle.std.proofs.Math.Seq.{slice};
 ghost use Rattle.laws.specs.Merging.{AllBelow};
 ghost use Rattle.geometry.specs.Coordinates.{node_count, coordinates_off};
 ghost use Rattle.snap.specs.Weld.{far_of, near_of};
-ghost use Rattle.snap.specs.Steps.{apart_by, outside_of, passed_of, InOrder, Reached, PassedOver};
+ghost use Rattle.snap.specs.Steps.{apart_by, outside_of, passed_of, InOrder, PassedOver};
 
 use geometry::Point;
 
@@ -52,73 +52,72 @@ fn passed(a: Point, b: Point, m: Point, limit: f64) -> bool
     outside(a.z, b.z, m.z, limit)
 }
 
-// A step on from `last`, where all up to there are passed over with the node at j; else `last`.
-fn step_on(
-    coords: &[f64],
+// The nodes in [from, end) of work, after a leader whose point is a; the first of them, at b, is passed over.
+#[derive(Clone, Copy)]
+struct Walk<'a> {
+    coords: &'a [f64],
+    work: &'a [u32],
     limit: f64,
-    work: &[u32],
     a: Point,
     b: Point,
-    j: usize,
-    e: usize,
-    last: usize,
-    step: usize,
-) -> usize
-    requires { (j ≤ last) × (last < e) × (e ≤ length work.now) × AllBelow (node_count coords.now) (slice j e work.now) × Reached coords.now limit a b j last work.now }
-    ensures { (last ≤ result) × (result < e) × Reached coords.now limit a b j result work.now }
-{
-    if e - last <= step {
-        return last;
-    }
-    let next = last + step;
-    let m = geometry::point3(coords, work[next]);
-    if passed(a, b, m, limit) {
-        return next;
-    }
-    last
+    from: usize,
+    end: usize,
+    ghost in_work: { end ≤ length work.now },
+    ghost are_nodes: { (i : ℕ) → from ≤ i → i < end → get_or work.now i 0 < node_count coords.now },
 }
 
-// Steps on from j, each twice the one before.
-fn leap(coords: &[f64], limit: f64, work: &[u32], a: Point, b: Point, j: usize, e: usize) -> Stride
-    requires { (j < e) × (e ≤ length work.now) × AllBelow (node_count coords.now) (slice j e work.now) }
-    ensures { (j ≤ result.last) × (result.last < e) × Reached coords.now limit a b j result.last work.now }
-{
-    let mut last = j;
-    let mut step: usize = 1;
-    // no `for`: the steps double
-    while step < e {
-        let next = step_on(coords, limit, work, a, b, j, e, last, step);
-        if next == last {
-            return Stride { last, step };
+impl Walk<'_> {
+    ghost use Rattle.snap.specs.Walks.{ReachedBy};
+
+    // A step on from `last`, where all up to there are passed over with the first; else `last`.
+    fn step_on(&self, last: usize, step: usize) -> usize
+        requires { (self.now.from ≤ last) × (last < self.now.end) × ReachedBy self.now last }
+        ensures { (last ≤ result) × (result < self.now.end) × ReachedBy self.now result }
+    {
+        if self.end - last <= step {
+            return last;
         }
-        last = next;
-        step += step;
+        let next = last + step;
+        let m = geometry::point3(self.coords, self.work[next]);
+        if passed(self.a, self.b, m, self.limit) {
+            return next;
+        }
+        last
     }
-    Stride { last, step }
-}
 
-// Steps on from `last`, each half the one before.
-fn land(
-    coords: &[f64],
-    limit: f64,
-    work: &[u32],
-    a: Point,
-    b: Point,
-    j: usize,
-    e: usize,
-    from: Stride,
-) -> usize
-    requires { (j ≤ from.last) × (from.last < e) × (e ≤ length work.now) × AllBelow (node_count coords.now) (slice j e work.now) × Reached coords.now limit a b j from.last work.now }
-    ensures { (j ≤ result) × (result < e) × Reached coords.now limit a b j result work.now }
-{
-    let mut last = from.last;
-    let mut step = from.step / 2;
-    // no `for`: the steps halve
-    while 0 < step {
-        last = step_on(coords, limit, work, a, b, j, e, last, step);
-        step /= 2;
+    // Steps on from the first, each twice the one before.
+    fn leap(&self) -> Stride
+        requires { self.now.from < self.now.end }
+        ensures { (self.now.from ≤ result.last) × (result.last < self.now.end) × ReachedBy self.now result.last }
+    {
+        let mut last = self.from;
+        let mut step: usize = 1;
+        // no `for`: the steps double
+        while step < self.end {
+            let next = self.step_on(last, step);
+            if next == last {
+                return Stride { last, step };
+            }
+            last = next;
+            step += step;
+        }
+        Stride { last, step }
     }
-    last
+
+    // Steps on from `last`, each half the one before.
+    fn land(&self, from: Stride) -> usize
+        requires { (self.now.from ≤ from.last) × (from.last < self.now.end) × ReachedBy self.now from.last }
+        ensures { (self.now.from ≤ result) × (result < self.now.end) × ReachedBy self.now result }
+    {
+        let mut last = from.last;
+        let mut step = from.step / 2;
+        // no `for`: the steps halve
+        while 0 < step {
+            last = self.step_on(last, step);
+            step /= 2;
+        }
+        last
+    }
 }
 
 // The node at j is passed over by the leader; the place behind it and others that are passed over too.
@@ -126,9 +125,15 @@ pub fn past(coords: &[f64], tol: f64, work: &[u32], leader: u32, j: usize, e: us
     requires { (j < e) × (e ≤ length work.now) × (leader < node_count coords.now) × AllBelow (node_count coords.now) (slice j e work.now) × InOrder coords.now j e work.now × (coordinates_off coords.now ≡ false) × (far_of coords.now tol leader (get_or work.now j 0) ≡ false) × (near_of coords.now tol leader (get_or work.now j 0) ≡ false) }
     ensures { (j < result) × (result ≤ e) × PassedOver coords.now tol leader j result work.now }
 {
-    let a = geometry::point3(coords, leader);
-    let b = geometry::point3(coords, work[j]);
-    let limit = tol * tol;
-    let l = leap(coords, limit, work, a, b, j, e);
-    land(coords, limit, work, a, b, j, e, l) + 1
+    let walk = Walk {
+        coords,
+        work,
+        limit: tol * tol,
+        a: geometry::point3(coords, leader),
+        b: geometry::point3(coords, work[j]),
+        from: j,
+        end: e,
+    };
+    let reached = walk.leap();
+    walk.land(reached) + 1
 }

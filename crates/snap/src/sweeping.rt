@@ -1,4 +1,5 @@
 // The sweep over sorted nodes: each that is not yet taken leads a group, whose nodes are marked with its smallest number.
+// Places go as numbers, each with its own clause: what is known of the words there changes with the stores, and no struct could keep it.
 ghost use Rattle.std.specs.Prelude.{◌≡◌, false, ◌+◌, ◌-◌, ◌^◌, ◌≤◌, ◌<◌, length, get_or};
 ghost use Rattle.std.proofs.lemmas.List.Edits.{sets};
 ghost use Rattle.std.proofs.Math.Seq.{slice};

@@ -1,12 +1,12 @@
 -- `floats::sqrt` meets its contract, each kind of value by a lemma of `Cases.antt`.
 use mathlib.Core.Path.{sym, ap, ◌∙◌, subst}
 use Prim.Native.Nat.{ℕ, ◌+◌, ◌*◌, ◌-◌, ◌^◌, ◌≤◌, ◌<◌}
-use native.Mathlib.Nat.{le_trans, lt_of_le_of_lt}
+use native.Mathlib.Nat.{le_trans}
 use native.Mathlib.Omega.{arith}
-use lib.Dec.{lit≤, lit<}
+use lib.Dec.{lit≤}
 use lib.Ieee.{div, of_bits}
 use Rattle.floats.proofs.Scaled.{moved}
-use Rattle.floats.proofs.Cases.{sqrt-nan, nan_is, number_is, exponent_of, significand_of, exponent_lt, significand_lt, at_zero, negative_low, negative_other, at_top, positive_low, positive_mid, zeros_of, Normal, normal, placed}
+use Rattle.floats.proofs.Cases.{sqrt-nan, nan_is, number_is, exponent_of, significand_of, significand_lt, at_zero, negative_low, negative_other, at_top, positive_low, positive_mid, zeros_of, Normal, normal, placed}
 use Rattle.floats.proofs.sqrt.Goals as goal
 
 pub returns-then-is_nan : goal.returns-then-is_nan
@@ -23,26 +23,6 @@ pub overflow_sub-zeros : goal.overflow_sub-zeros
 overflow_sub-zeros c =
     let normal_of : Normal (significand_of c.args.x) = let x = c.args.x in normal (significand_of x) c.if-significand-eq0.false (significand_lt x) in
     normal_of.some
-
-pub overflow_cast-zeros : goal.overflow_cast-zeros
-overflow_cast-zeros c =
-    let normal_of : Normal (significand_of c.args.x) = let x = c.args.x in normal (significand_of x) c.if-significand-eq0.false (significand_lt x) in
-    record { fits = lt_of_le_of_lt normal_of.few (lit< tt) }
-
-pub overflow_shl-significand : goal.overflow_shl-significand
-overflow_shl-significand c =
-    let normal_of : Normal (significand_of c.args.x) = let x = c.args.x in normal (significand_of x) c.if-significand-eq0.false (significand_lt x) in
-    lt_of_le_of_lt normal_of.few (lit< tt)
-
-pub overflow_cast-zeros-then-exponent-eq0 : goal.overflow_cast-zeros-then-exponent-eq0
-overflow_cast-zeros-then-exponent-eq0 c =
-    let normal_of : Normal (significand_of c.args.x) = let x = c.args.x in normal (significand_of x) c.if-significand-eq0.false (significand_lt x) in
-    record { fits = lt_of_le_of_lt normal_of.few (lit< tt) }
-
-pub overflow_sub-zeros-then-exponent-eq0 : goal.overflow_sub-zeros-then-exponent-eq0
-overflow_sub-zeros-then-exponent-eq0 c =
-    let normal_of : Normal (significand_of c.args.x) = let x = c.args.x in normal (significand_of x) c.if-significand-eq0.false (significand_lt x) in
-    le_trans normal_of.few (lit≤ tt)
 
 pub of_power-requires : goal.of_power-requires
 of_power-requires c =
@@ -65,15 +45,6 @@ returns-then-sign-eq1-2 c = sym (negative_other c.args.x c.well_formed.0.1 c.if-
 
 pub returns-then-exponent-eq2047 : goal.returns-then-exponent-eq2047
 returns-then-exponent-eq2047 c = at_top c.args.x c.well_formed.0.1 c.if-exponent-eq2047.true c.if-sign-eq1-2.false (number_is c.args.x (sym c.is_nan.ensures.value ∙ c.if-is_nan.false))
-
-pub overflow_add-significand : goal.overflow_add-significand
-overflow_add-significand c = omega (arith, significand_lt c.args.x)
-
-pub overflow_add-exponent : goal.overflow_add-exponent
-overflow_add-exponent c = omega (arith, exponent_lt c.args.x)
-
-pub of_power-requires-2 : goal.of_power-requires-2
-of_power-requires-2 c = omega (arith, significand_lt c.args.x, exponent_lt c.args.x, c.if-exponent-eq0.false)
 
 pub returns : goal.returns
 returns c =

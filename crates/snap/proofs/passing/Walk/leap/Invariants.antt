@@ -1,0 +1,9 @@
+use Prim.Native.Nat.{◌-◌, ◌≤◌, ◌<◌}
+use Rattle.snap.specs.Walks.{ReachedBy}
+use Rattle.snap.proofs.passing.Walk.leap.Given as goal
+
+abbrev pub invariant-loop-step : goal.invariant-loop-step
+invariant-loop-step l = (l.self.from ≤ l.last) × (l.last < l.self.end) × (0 < l.step) × ReachedBy l.self l.last
+
+abbrev pub decreases-loop-step : goal.decreases-loop-step
+decreases-loop-step l = l.self.end - l.step

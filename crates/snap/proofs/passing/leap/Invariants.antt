@@ -1,9 +1,0 @@
-use Prim.Native.Nat.{◌-◌, ◌≤◌, ◌<◌}
-use Rattle.snap.specs.Steps.{Reached}
-use Rattle.snap.proofs.passing.leap.Given as goal
-
-abbrev pub invariant-loop-step : goal.invariant-loop-step
-invariant-loop-step l = (l.j ≤ l.last) × (l.last < l.e) × (0 < l.step) × Reached l.coords l.limit l.a l.b l.j l.last l.work
-
-abbrev pub decreases-loop-step : goal.decreases-loop-step
-decreases-loop-step l = l.e - l.step
