@@ -1,23 +1,17 @@
 -- What each step asks of the model, the places and the slice.
 use Prim.Native.Nat.{ℕ, ◌+◌, ◌*◌, ◌≤◌, ◌<◌, ◌^◌}
-use mathlib.Core.Path.{◌≡◌, refl, subst}
-use mathlib.Core.Bool.{false}
+use mathlib.Core.Path.{◌≡◌}
 use mathlib.Core.List.{List}
 use native.Mathlib.Nat.{le_trans}
 use native.Mathlib.Omega.{arith}
 use lib.ListN.{length, take}
 use Rattle.laws.specs.Lists.{each}
-use Rattle.laws.specs.Merging.{AllBelow}
-use Rattle.geometry.specs.Coordinates.{node_count, coordinates_off}
+use Rattle.geometry.specs.Coordinates.{node_count}
 use Rattle.mesh.specs.Model.{Model, Raw}
-use Rattle.mesh.specs.Rings.{nodes_in, rings_of}
+use Rattle.mesh.specs.Rings.{rings_of}
 use Rattle.mesh.specs.Acceptance.{model_refusal, work_needed}
 use Rattle.mesh.specs.Steps.{ring_total, Tallied}
-use Rattle.mesh.specs.declared.CellTally.{CellTally}
-use Rattle.mesh.proofs.Accepts.{accepts}
-use Rattle.mesh.proofs.CellWords.{words_low}
 use Rattle.faces.specs.Spans.{rings_in}
-use Rattle.mesh.proofs.ModelTable.{work_room}
 use Rattle.layout.specs.declared.Layout.{Layout}
 use Rattle.layout.specs.Tables.{Ringed}
 use Rattle.model_tables.proofs.Contents.{Settled, RingTables, Marked}
@@ -50,10 +44,6 @@ module _ (m : Model) (ok : model_refusal m ≡ 0) where
   -- the places: no sum wraps
   pub asks_plan : (f r : ℕ) → Tallied m f r → (r < 2 ^ 32) × (f < 2 ^ 32) × (length m.kinds < 2 ^ 32) × (node_count m.coords < 2 ^ 32) × (length m.words < 2 ^ 32)
   asks_plan f r t = let k = few m ok in (t.small, t.few, omega (arith, k.kinds), omega (arith, k.nodes), omega (arith, k.words))
-
-  -- the welded map: three words a node
-  pub asks_weld : (w : List ℕ) → work_needed m ≤ length w → (node_count m.coords ≡ node_count m.coords) × (3 * node_count m.coords ≤ length w) × (node_count m.coords < 2 ^ 32) × (coordinates_off m.coords ≡ false) × AllBelow (node_count m.coords) (nodes_in m.words)
-  asks_weld w h = let f = few m ok in let k = accepts m ok in (refl, le_trans (work_room m) h, omega (arith, f.nodes), k.places, words_low m k)
 
   module _ (K : ℕ) (l : Layout) (s : Settled m.coords (cells m ok) (length m.words) K l) (w : List ℕ) (h : work_needed m ≤ length w) where
     abbrev cs : List Raw

@@ -26,7 +26,7 @@ use borrow.Author.Tests.{ltb-false}
 use Rattle.welding.specs.Used.{welded_used}
 use Rattle.welding.specs.Steps.{welded_over}
 use Rattle.welding.proofs.Used.{used-words, welds_words}
-use Rattle.mesh.proofs.CellWords.{cells_count, words_low, few_nodes}
+use Rattle.mesh.proofs.CellWords.{cells_count, cells_words, words_low, few_nodes}
 use Rattle.findings.specs.Rules.{rules_of, rules_with}
 use Rattle.index.specs.Faces.{input, Room}
 use Rattle.layout.specs.declared.Layout.{Layout}
@@ -34,10 +34,9 @@ use Rattle.layout.specs.Tables.{Spaced}
 use Rattle.layout.specs.ByCell.{bit}
 use Rattle.layout.specs.Shown.{Shows, Built}
 use Rattle.tables.specs.Owners.{owners_from}
-use Rattle.tables.proofs.Lengths.{cells_small}
 use Rattle.tables.proofs.Shown.{joined}
 use Rattle.model_tables.specs.Planned.{Planned}
-use Rattle.model_tables.proofs.Sizes.{sized_cells, sized_many, sets_total}
+use Rattle.model_tables.proofs.Sizes.{sized_cells, sized_many, sets_total, cells_small}
 use Rattle.model_tables.proofs.Reading.{holds_put, holds_before, holds_at, holds_long}
 use Rattle.model_tables.proofs.Contents.{meets, Settled, RingTables, FaceTables, Tabled, Cleared}
 use Rattle.model_tables.proofs.Ringing.{welds_held, first_at}

@@ -1,14 +1,16 @@
 -- `model_tables::build_tables` meets its contract: group by group the tables stand, and all are built.
 use Prim.Native.Nat.{ℕ, ◌≤◌}
 use mathlib.Core.Path.{◌≡◌, ap, ◌∙◌}
+use native.Mathlib.Nat.{le_trans}
 use native.Mathlib.Omega.{arith}
 use lib.ListN.{length, take}
 use Rattle.mesh.specs.Lent.{lent}
 use Rattle.mesh.specs.Steps.{ring_total}
+use Rattle.mesh.proofs.ModelTable.{work_room}
 use Rattle.model_tables.proofs.Ringing.{sets_are}
 use Rattle.model_tables.proofs.Stages.{rings_part, rings_put, marks_put, nodes_put}
 use Rattle.model_tables.proofs.Building.{cells, settled, zeros_put, placed_again, built}
-use Rattle.model_tables.proofs.Asking.{asks_plan, asks_weld, inside, asks_rings, asks_marks, asks_nodes, asks_zeros}
+use Rattle.model_tables.proofs.Asking.{asks_plan, inside, asks_rings, asks_marks, asks_nodes, asks_zeros}
 use Rattle.model_tables.proofs.build_tables.Goals as goal
 
 -- a slice of another one's length has as much room

@@ -25,4 +25,14 @@ weld_named-requires c =
     (e, omega (arith, c.requires, e), omega (arith, e), h.places, subst (λ (n : ℕ). AllBelow n (nodes_in m.words)) (sym e) (words_low m h))
 
 pub returns : goal.returns
-returns c = ?
+returns c =
+    let s = c.args.model.now in
+    let m = lent s.model in
+    let h = accepts m s.accepted in
+    let w = c.weld_named.new.work in
+    let n = c.node_count-n.result in
+    let e = c.node_count-n.ensures in
+    let fits : n + n + n ≤ length w = omega (arith, c.requires, e, c.weld_named.auto.work) in
+    let fitting : 0 + n ≤ length w = omega (arith, fits) in
+    let front = copied w c.copy_within.new.work (n + n) n fits (c.copy_within.ensures.after ∙ Slice.copied w (n + n) n 0 fits fitting) in
+    subst (λ (k : ℕ). region 0 k c.copy_within.new.work ≡ welds_of m) e (front ∙ c.weld_named.ensures.0 ∙ ?)
