@@ -1,21 +1,19 @@
 -- How many rings cells have, and how long these are.
-use Prim.Native.Nat.{ℕ, zero, suc, ◌+◌, ◌-◌, ◌*◌, ◌≤◌, ◌<◌}
-use mathlib.Core.Path.{◌≡◌, refl, sym, ap, subst}
+use Prim.Native.Nat.{ℕ, zero, suc, ◌≤◌, ◌<◌}
+use mathlib.Core.Path.{◌≡◌, refl, sym, subst}
 use mathlib.Core.Logic.{◌⊎◌, inl, inr, ◌≢◌}
 use mathlib.Core.Bool.{Bool, true, false}
 use mathlib.Core.List.{List, [], ◌∷◌}
 use native.Mathlib.Omega.{arith}
 use borrow.Author.Tests.{eqb-true, eqb-false, ltb-false}
 use lib.Dec.{leb, eqb}
-use lib.ListN.{length, get_or, take, drop, length-append, take-append-drop}
+use lib.ListN.{length, get_or}
 use Rattle.laws.specs.Limits.{ring_limit}
-use Rattle.laws.specs.Lists.{any, each, keep}
+use Rattle.laws.specs.Lists.{any, keep}
 use Rattle.laws.proofs.Tests.{tested, or_none}
-use Rattle.laws.proofs.ListLaws.{keep-length}
-use Rattle.mesh.specs.Model.{cells_from}
-use Rattle.mesh.specs.Rings.{separator, at, tet_rings, hex_rings, wedge_rings, onto, runs, phed_rings, rings_of}
+use Rattle.mesh.specs.Rings.{at, tet_rings, hex_rings, wedge_rings, runs, phed_rings, rings_of}
 use Rattle.mesh.specs.Acceptance.{count_wrong}
-use Rattle.mesh.specs.Steps.{ring_total, too_long, cell_with, WellCell, WellCells}
+use Rattle.mesh.specs.Steps.{ring_total, too_long, cell_with, WellCell}
 use Rattle.mesh.proofs.ByKind.{tet_is, hex_is, wedge_is, phed_is}
 use Rattle.mesh.proofs.CellKinds.{the_fourth}
 
@@ -67,41 +65,3 @@ ring_short k ws f w h = short_at (rings_of (cell_with k ws)) f (rings_short k ws
 -- the rings of a cell that is no PHED have at most 24 words
 pub fixed_total : (k : ℕ) (ws : List ℕ) → WellCell (cell_with k ws) → k ≢ 4 → ring_total (rings_of (cell_with k ws)) ≤ 24
 fixed_total k ws w z = by_kind (λ rs. ring_total rs ≤ 24) k ws w (omega arith) (omega arith) (omega arith) (λ e. absurd (z e))
-
--- ---- counts
-
--- a word in front adds at most one run
-onto_length : (w : ℕ) (rs : List (List ℕ)) → length (onto w rs) ≤ 1 + length rs
-onto_length w [] = omega arith
-onto_length w (r ∷ rs) = omega arith
-
--- words have at most one run more than words
-runs_length : (ws : List ℕ) → length (runs ws) ≤ 1 + length ws
-runs_length [] = omega arith
-runs_length (w ∷ ws) = go (tested (eqb w separator)) (runs_length ws)
-  where
-    go : (eqb w separator ≡ true) ⊎ (eqb w separator ≡ false) → length (runs ws) ≤ 1 + length ws → length (runs (w ∷ ws)) ≤ 1 + suc (length ws)
-    go (inl a) ih = rw a (omega arith)
-    go (inr a) ih = rw a (omega (arith, onto_length w (runs ws)))
-
--- a cell has at most so many rings
-pub rings_few : (k : ℕ) (ws : List ℕ) → WellCell (cell_with k ws) → length (rings_of (cell_with k ws)) ≤ 7 + length ws
-rings_few k ws w =
-    by_kind (λ rs. length rs ≤ 7 + length ws) k ws w (omega arith) (omega arith) (omega arith)
-    (λ e. omega (arith, keep-length (λ r. leb 3 (length r)) (runs ws), runs_length ws))
-
--- and cells have
-pub cells_few : (at : ℕ) (ks es ws : List ℕ) → WellCells (cells_from at ks es ws) → length (each rings_of (cells_from at ks es ws)) ≤ 7 * length ks + length ws
-cells_few at [] es ws w = omega arith
-cells_few at (k ∷ ks) [] ws w = omega arith
-cells_few at (k ∷ ks) (e ∷ es) ws w =
-    let here = take (e - at) ws in
-    let later = drop (e - at) ws in
-    omega (
-      arith,
-      length-append (rings_of (cell_with k here)) (each rings_of (cells_from e ks es later)),
-      rings_few k here w.0,
-      cells_few e ks es later w.1,
-      length-append here later,
-      ap length (take-append-drop (e - at) ws),
-    )

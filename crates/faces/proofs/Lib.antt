@@ -1,10 +1,7 @@
--- Laws of where a face's ring lies, and of numbers noted in a list.
-pub mod Seeking
-pub mod Spanning
-pub mod Polyhedra
-pub mod Walking
-pub mod Finding
+-- Laws of where a face's ring lies.
 pub mod Rings
+pub mod Taking
+pub mod Spanning
+pub mod Finding
 pub mod Lookups
 pub mod Bounds
-pub mod Noting

@@ -1,6 +1,6 @@
 -- What the ring lookup answers: its refusals in order, and the part.
 use Prim.Native.Nat.{ℕ, ◌+◌, ◌-◌, ◌≤◌, ◌<◌}
-use mathlib.Core.Path.{◌≡◌, sym, ap, ap₂, ◌∙◌}
+use mathlib.Core.Path.{◌≡◌, refl, sym, ap, ap₂, ◌∙◌, subst}
 use mathlib.Core.Logic.{◌⊎◌, inl, inr, ◌≢◌}
 use mathlib.Core.Bool.{Bool, true, false, not, ◌||◌}
 use mathlib.Core.List.{List, [], ◌∷◌, ◌++◌}
@@ -8,20 +8,26 @@ use native.Mathlib.Omega.{arith}
 use borrow.Author.Tests.{leb-false, le-leb, lt-leb, eqb-true, eqb-false, eq-eqb, ne_eqb, not-false}
 use lib.Dec.{eqb}
 use lib.ListN.{length, take, drop}
-use Rattle.laws.specs.Refusals.{refusal}
+use Rattle.std.specs.Prelude.{Result, Ok, Err}
+use Rattle.laws.specs.Refusals.{refusal, answer}
 use Rattle.laws.proofs.Tests.{tested, or_none}
 use Rattle.laws.proofs.Tables.{refusal_first, clear_append, refusal_clear}
+use Rattle.refusals.specs.Told.{told_by}
+use Rattle.refusals.specs.declared.Refusal.{Refusal}
+use Rattle.refusals.specs.declared.Refusal.TheVariants.{Room, Number}
+use Rattle.refusals.proofs.Told.{number-positive, told_ok, told_err, ok_told, err_told}
 use Rattle.mesh.specs.Model.{Model}
+use Rattle.mesh.specs.Lent.{lent}
+use Rattle.mesh.specs.declared.accepted.Accepted.{Accepted}
 use Rattle.mesh.specs.Rings.{ring_words}
 use Rattle.mesh.specs.Acceptance.{model_table, model_refusal, faces_in}
 use Rattle.mesh.specs.Lookup.{face_off, named, lookup_refusal, ring_part}
-use Rattle.mesh.specs.Steps.{ring_total, ModelCounted}
-use Rattle.mesh.specs.declared.CellTally.{CellTally}
+use Rattle.mesh.specs.Steps.{ring_total, Tallied}
 use Rattle.mesh.specs.declared.RingList.{RingList}
 use Rattle.mesh.proofs.Accepts.{accepted_clear}
-use Rattle.faces.specs.Spans.{SpanIn}
+use Rattle.faces.specs.Spans.{rings_in, SpanIn}
 use Rattle.faces.specs.declared.Span.{Span}
-use Rattle.faces.proofs.Rings.{rings_all, faces_are_lem, words_are, ring_at, start_at, span_within}
+use Rattle.faces.proofs.Rings.{faces_are_lem, words_are, ring_at, start_at, span_within}
 
 -- a table behind a model's: the model's refusal first
 pub behind_refused : (m : Model) (rest : List (ℕ × Bool)) → model_refusal m ≢ 0 → refusal (model_table m ++ rest) ≡ model_refusal m
@@ -50,49 +56,65 @@ rows m raw welded f = (4, lists_off m raw welded) ∷ (12, face_off m f) ∷ []
 
 -- ---- the companion's answer
 
-module _ (m : Model) (raw welded : List ℕ) (f : ℕ) (t : CellTally) (k : ModelCounted m t) where
-  -- the model is refused
-  pub refused_model : t.refusal ≢ 0 → t.refusal ≡ lookup_refusal m raw welded f
-  unfolding lookup_refusal
-  refused_model z = k.refusal ∙ sym (behind_refused m (rows m raw welded f) (λ e. z (k.refusal ∙ e)))
+-- an accepted model has no refusal, and is the one that was judged
+pub accepted_is : (m : Model) (x : Accepted) → told_by {A = Accepted} {B = Model} (λ a. lent a.model) (Ok x) ≡ answer (model_refusal m) m → (model_refusal m ≡ 0) × (lent x.model ≡ m) × Tallied m x.faces x.ring_words
+accepted_is m x e =
+    let z = told_ok {A = Accepted} {B = Model} (λ a. lent a.model) x (model_refusal m) m e in
+    (z.0, z.1, subst (λ (v : Model). Tallied v x.faces x.ring_words) z.1 x.tallied)
 
-  -- the model is accepted, and the rows behind it decide
-  accepted : t.refusal ≡ 0 → lookup_refusal m raw welded f ≡ refusal (rows m raw welded f)
+-- what the companion says
+abbrev Judged : Model → List ℕ → List ℕ → ℕ → Result Accepted Refusal → Type 0
+Judged m raw welded f r = told_by {A = Accepted} {B = Unit {0}} (λ _. tt {0}) r ≡ answer (lookup_refusal m raw welded f) (tt {0})
+
+-- the model is refused
+pub judged_model : (m : Model) (raw welded : List ℕ) (f : ℕ) (e : Refusal) → told_by {A = Accepted} {B = Model} (λ a. lent a.model) (Err e) ≡ answer (model_refusal m) m → Judged m raw welded f (Err e)
+unfolding lookup_refusal
+judged_model m raw welded f e h =
+    let n = told_err {A = Accepted} {B = Model} (λ a. lent a.model) e (model_refusal m) m h in
+    let z = behind_refused m (rows m raw welded f) (λ z. omega (arith, number-positive e, n, z)) in
+    err_told {A = Accepted} {B = Unit {0}} _ e (lookup_refusal m raw welded f) _ (n ∙ sym z)
+
+-- it is accepted, and the rows behind it decide
+module _ (m : Model) (raw welded : List ℕ) (f : ℕ) (x : Accepted) (told : told_by {A = Accepted} {B = Model} (λ a. lent a.model) (Ok x) ≡ answer (model_refusal m) m) where
+  tallied : Tallied m x.faces x.ring_words
+  tallied = (accepted_is m x told).2
+
+  rows_decide : lookup_refusal m raw welded f ≡ refusal (rows m raw welded f)
   unfolding lookup_refusal
-  accepted z = behind_accepted m (rows m raw welded f) (sym k.refusal ∙ z)
+  rows_decide = behind_accepted m (rows m raw welded f) (accepted_is m x told).0
+
+  right : (l : List ℕ) → length l ≡ x.ring_words → eqb (length l) (length (ring_words (faces_in m))) ≡ true
+  right l e = eq-eqb (length l) (length (ring_words (faces_in m))) (e ∙ tallied.words)
+
+  wrong : (l : List ℕ) → length l ≢ x.ring_words → eqb (length l) (length (ring_words (faces_in m))) ≡ false
+  wrong l z = ne_eqb (length l) (length (ring_words (faces_in m))) (λ e. z (e ∙ sym tallied.words))
 
   -- the raw list isn't R words
-  pub refused_raw : t.refusal ≡ 0 → length raw ≢ t.words → 4 ≡ lookup_refusal m raw welded f
-  refused_raw z n = sym (accepted z ∙ rw (ne_eqb (length raw) (length (ring_words (faces_in m))) (λ e. n (e ∙ sym (k.words z)))))
-
-  -- the raw list is
-  raw_right : t.refusal ≡ 0 → length raw ≡ t.words → eqb (length raw) (length (ring_words (faces_in m))) ≡ true
-  raw_right z e = eq-eqb (length raw) (length (ring_words (faces_in m))) (e ∙ k.words z)
+  pub judged_raw : length raw ≢ x.ring_words → Judged m raw welded f (Err Room)
+  judged_raw z = err_told {A = Accepted} {B = Unit {0}} _ Room _ _ (sym (rows_decide ∙ rw (wrong raw z)))
 
   -- the welded list isn't
-  pub refused_welded : t.refusal ≡ 0 → length raw ≡ t.words → length welded ≢ t.words → 4 ≡ lookup_refusal m raw welded f
-  refused_welded z e n = sym (accepted z ∙ rw (raw_right z e, ne_eqb (length welded) (length (ring_words (faces_in m))) (λ y. n (y ∙ sym (k.words z)))))
-
-  -- the welded list is
-  welded_right : t.refusal ≡ 0 → length welded ≡ t.words → eqb (length welded) (length (ring_words (faces_in m))) ≡ true
-  welded_right z e = eq-eqb (length welded) (length (ring_words (faces_in m))) (e ∙ k.words z)
+  pub judged_welded : length raw ≡ x.ring_words → length welded ≢ x.ring_words → Judged m raw welded f (Err Room)
+  judged_welded a z = err_told {A = Accepted} {B = Unit {0}} _ Room _ _ (sym (rows_decide ∙ rw (right raw a, wrong welded z)))
 
   -- there is no such face
-  pub refused_face : t.refusal ≡ 0 → length raw ≡ t.words → length welded ≡ t.words → t.faces ≤ f → 12 ≡ lookup_refusal m raw welded f
-  refused_face z a b h = sym (accepted z ∙ rw (raw_right z a, welded_right z b, le-leb (length (faces_in m)) f (omega (arith, k.faces z))))
+  pub judged_face : length raw ≡ x.ring_words → length welded ≡ x.ring_words → x.faces ≤ f → Judged m raw welded f (Err Number)
+  judged_face a b h =
+      err_told {A = Accepted} {B = Unit {0}} _ Number _ _ (sym (rows_decide ∙ rw (right raw a, right welded b, le-leb (length (faces_in m)) f (omega (arith, tallied.faces)))))
 
   -- nothing is refused
-  pub refused_none : t.refusal ≡ 0 → length raw ≡ t.words → length welded ≡ t.words → f < t.faces → 0 ≡ lookup_refusal m raw welded f
-  refused_none z a b h = sym (accepted z ∙ rw (raw_right z a, welded_right z b, lt-leb (length (faces_in m)) f (omega (arith, k.faces z))))
+  pub judged_none : length raw ≡ x.ring_words → length welded ≡ x.ring_words → f < x.faces → Judged m raw welded f (Ok x)
+  judged_none a b h =
+      ok_told {A = Accepted} {B = Unit {0}} _ x _ _ (rows_decide ∙ rw (right raw a, right welded b, lt-leb (length (faces_in m)) f (omega (arith, tallied.faces)))) refl
 
 -- ---- the part
 
 -- what it is that nothing is refused
 pub record Looked (m : Model) (raw welded : List ℕ) (f : ℕ) : Type 0 where
   pub model : model_refusal m ≡ 0
-  pub raw_is_lem : length raw ≡ ring_total (rings_all m)
-  pub welded_is_lem : length welded ≡ ring_total (rings_all m)
-  pub face : f < length (rings_all m)
+  pub raw_is_lem : length raw ≡ ring_total (rings_in m)
+  pub welded_is_lem : length welded ≡ ring_total (rings_in m)
+  pub face : f < length (rings_in m)
 
 -- nothing is refused, so that holds
 pub looked : (m : Model) (raw welded : List ℕ) (f : ℕ) → lookup_refusal m raw welded f ≡ 0 → Looked m raw welded f
@@ -110,23 +132,37 @@ looked m raw welded f e =
       face = omega (arith, leb-false (length (faces_in m)) f s.0, faces_are_lem m);
     }
 
--- the ring lies within both lists
-pub part_within : (m : Model) (raw welded : List ℕ) (f : ℕ) (s : Span) → lookup_refusal m raw welded f ≡ 0 → SpanIn (rings_all m) f s → (s.start + s.len ≤ length raw) × (s.start + s.len ≤ length welded)
-part_within m raw welded f s z p =
-    let l = looked m raw welded f z in
-    let w = span_within (rings_all m) f l.face in
-    (omega (arith, w, p.start, p.len, l.raw_is_lem), omega (arith, w, p.start, p.len, l.welded_is_lem))
-
 -- at a refusal the part is empty
-pub part_none : (m : Model) (raw welded : List ℕ) (which : RingList) (f : ℕ) → lookup_refusal m raw welded f ≢ 0 → [] ≡ ring_part m raw welded which f
+pub part_none : (m : Model) (raw welded : List ℕ) (which : RingList) (f : ℕ) (e : Refusal) → Judged m raw welded f (Err e) → [] ≡ ring_part m raw welded which f
 unfolding ring_part
-part_none m raw welded which f z = rw (ne_eqb (lookup_refusal m raw welded f) 0 z)
+part_none m raw welded which f e h =
+    let n = told_err {A = Accepted} {B = Unit {0}} _ e (lookup_refusal m raw welded f) _ h in
+    rw (ne_eqb (lookup_refusal m raw welded f) 0 (λ z. omega (arith, number-positive e, n, z)))
 
--- else it is the ring in the list named
-pub part_is_lem : (m : Model) (raw welded : List ℕ) (which : RingList) (f : ℕ) (s : Span) → lookup_refusal m raw welded f ≡ 0 → SpanIn (rings_all m) f s
-    → take ((s.start + s.len) - s.start) (drop s.start (named which raw welded)) ≡ ring_part m raw welded which f
-unfolding ring_part
-part_is_lem m raw welded which f s z p =
-    let n : (s.start + s.len) - s.start ≡ s.len = omega arith in
-    ap₂ (λ (k j : ℕ). take k (drop j (named which raw welded))) (n ∙ p.len ∙ ap length (sym (ring_at m f))) (p.start ∙ sym (start_at m f))
-    ∙ rw (eq-eqb (lookup_refusal m raw welded f) 0 z)
+-- what a ring's place says where nothing is refused
+module _ (m : Model) (raw welded : List ℕ) (f : ℕ) (x : Accepted) (judged : Judged m raw welded f (Ok x)) (same : lent x.model ≡ m) where
+  none : lookup_refusal m raw welded f ≡ 0
+  none = (told_ok {A = Accepted} {B = Unit {0}} _ x (lookup_refusal m raw welded f) _ judged).0
+
+  -- there is such a face
+  pub part_face : f < length (rings_in (lent x.model))
+  part_face = omega (arith, (looked m raw welded f none).face, ap (λ (v : Model). length (rings_in v)) same)
+
+  module _ (s : Span) (p : SpanIn (rings_in (lent x.model)) f s) where
+    spot : SpanIn (rings_in m) f s
+    spot = subst (λ (v : Model). SpanIn (rings_in v) f s) same p
+
+    -- its ring lies within both lists
+    pub part_within : (s.start + s.len ≤ length raw) × (s.start + s.len ≤ length welded)
+    part_within =
+        let l = looked m raw welded f none in
+        let w = span_within (rings_in m) f l.face in
+        (omega (arith, w, spot.start, spot.len, l.raw_is_lem), omega (arith, w, spot.start, spot.len, l.welded_is_lem))
+
+    -- and is the part of the list named
+    pub part_is_lem : (which : RingList) → take ((s.start + s.len) - s.start) (drop s.start (named which raw welded)) ≡ ring_part m raw welded which f
+    unfolding ring_part
+    part_is_lem which =
+        let n : (s.start + s.len) - s.start ≡ s.len = omega arith in
+        ap₂ (λ (k j : ℕ). take k (drop j (named which raw welded))) (n ∙ spot.len ∙ ap length (sym (ring_at m f))) (spot.start ∙ sym (start_at m f))
+        ∙ rw (eq-eqb (lookup_refusal m raw welded f) 0 none)

@@ -1,14 +1,11 @@
--- The rings of a cell by its kind: where each starts and how long it is.
+-- The rings of a cell that is no PHED: where each starts and how long it is.
 use Prim.Native.Nat.{ℕ, zero, suc, ◌*◌, ◌-◌, ◌<◌, ◌≤◌}
 use mathlib.Core.Path.{◌≡◌, sym, subst}
-use mathlib.Core.Logic.{◌≢◌}
 use mathlib.Core.List.{List}
 use native.Mathlib.Omega.{arith}
 use lib.ListN.{length}
-use Rattle.mesh.specs.Rings.{at, tet_rings, hex_rings, wedge_rings, rings_of}
-use Rattle.mesh.specs.Steps.{cell_with}
-use Rattle.mesh.proofs.ByKind.{phed_is}
-use Rattle.faces.specs.Spans.{SpanIn, RunSpan, CellSpan}
+use Rattle.mesh.specs.Rings.{at, tet_rings, hex_rings, wedge_rings}
+use Rattle.faces.specs.Spans.{SpanIn}
 use Rattle.faces.specs.declared.Span.{Span}
 
 -- a tetrahedron's rings have three words
@@ -44,20 +41,10 @@ wedge_four ws (suc (suc (suc zero))) s l h a b = record { start = a; len = b }
 wedge_four ws (suc (suc (suc (suc zero)))) s l h a b = record { start = a; len = b }
 wedge_four ws (suc (suc (suc (suc (suc f))))) s l h a b = absurd (omega arith)
 
--- a face of a cell is one of its rings
-pub of_rings : (k : ℕ) (ws : List ℕ) (f : ℕ) {rs : List (List ℕ)} → rings_of (cell_with k ws) ≡ rs → f < length (rings_of (cell_with k ws)) → f < length rs
-of_rings k ws f e h = subst (λ (l : List (List ℕ)). f < length l) e h
+-- ---- a cell's rings, where they are known
 
--- a ring of a cell that is no PHED
-pub fixed_span : (k : ℕ) (ws : List ℕ) (f : ℕ) (s : Span) {rs : List (List ℕ)} → rings_of (cell_with k ws) ≡ rs → k ≢ 4 → SpanIn rs f s → s.start ≤ 24 → CellSpan k ws f s
-fixed_span k ws f s e z p h =
-    record { spot = subst (λ (l : List (List ℕ)). SpanIn l f s) (sym e) p; run = λ y. absurd (z y); small = omega arith }
+pub of_rings : {all rs : List (List ℕ)} (f : ℕ) → all ≡ rs → f < length all → f < length rs
+of_rings f e h = subst (λ (l : List (List ℕ)). f < length l) e h
 
--- a ring of a PHED
-pub phed_span_lem : (k : ℕ) (ws : List ℕ) (f : ℕ) (s : Span) → k ≡ 4 → RunSpan ws f s → CellSpan k ws f s
-phed_span_lem k ws f s e p =
-    record {
-      spot = subst (λ (l : List (List ℕ)). SpanIn l f s) (sym (phed_is k ws e)) p.spot;
-      run = λ y. p;
-      small = omega (arith, p.small);
-    }
+pub span_of_rings : {all rs : List (List ℕ)} {f : ℕ} {s : Span} → all ≡ rs → SpanIn rs f s → SpanIn all f s
+span_of_rings {f = f} {s = s} e p = subst (λ (l : List (List ℕ)). SpanIn l f s) (sym e) p

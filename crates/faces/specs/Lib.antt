@@ -1,3 +1,2 @@
--- Internal contracts on where a face's ring lies, and on lists of numbers.
+-- Internal contracts on where a face's ring lies.
 pub mod Spans
-pub mod Listing

@@ -1,12 +1,12 @@
--- Rings put one after the other.
+-- Words and rings put one after the other.
 use Prim.Native.Nat.{ℕ, ◌+◌, ◌≤◌, ◌<◌}
 use mathlib.Core.Path.{◌≡◌, sym, ap, ap₂, ◌∙◌, subst}
 use mathlib.Core.Bool.{false}
-use mathlib.Core.List.{List, [], ◌∷◌, ◌++◌, append-nil}
+use mathlib.Core.List.{List, [], ◌∷◌, ◌++◌}
 use native.Mathlib.Omega.{arith}
 use borrow.Author.Tests.{leb-false}
 use lib.Dec.{leb}
-use lib.ListN.{length}
+use lib.ListN.{length, length-append}
 use lib.Seq.{sets}
 use Rattle.std.specs.List.{All}
 use Rattle.std.proofs.lemmas.List.Elements.{All-nil, All-cons}
@@ -14,65 +14,50 @@ use Rattle.laws.specs.Lists.{any, each}
 use Rattle.laws.proofs.ListLaws.{each_append}
 use Rattle.laws.proofs.Stores.{sets_append}
 use Rattle.laws.proofs.Tests.{or_none}
-use Rattle.mesh.specs.Steps.{ring_total}
-use Rattle.mesh.proofs.CellTallies.{total_append}
-use Rattle.rings.specs.Put.{RingsPut}
+use Rattle.rings.specs.Put.{WordsPut}
+use Rattle.mesh.specs.Model.{Raw}
+use Rattle.mesh.specs.Rings.{rings_of}
+
+-- what was put, with the words that are left, is all
+pub record Putting (l out : List ℕ) (o k : ℕ) (all rest : List ℕ) : Type 0 where
+  pub put : sets out k rest ≡ sets l o all
+  pub place : k + length rest ≡ o + length all
+
+pub putting_start : (l : List ℕ) (o : ℕ) (all rest : List ℕ) → rest ≡ all → Putting l l o o all rest
+putting_start l o all rest e = record { put = ap (sets l o) e; place = ap (λ (r : List ℕ). o + length r) e }
+
+module _ {l out : List ℕ} {o k : ℕ} {all rest : List ℕ} (p : Putting l out o k all rest) (now later : List ℕ) (is : rest ≡ now ++ later) where
+  -- there is room for the next words
+  pub putting_room : o + length all ≤ length l → length out ≡ length l → k + length now ≤ length out
+  putting_room h e = omega (arith, ap length is, length-append now later, p.place)
+
+  -- they are put
+  pub putting_next : (out' : List ℕ) (k' : ℕ) → WordsPut now out out' k k' → Putting l out' o k' all later
+  putting_next out' k' w = record {
+    put = ap₂ (λ (v : List ℕ) (j : ℕ). sets v j later) w.1 w.0 ∙ sym (sets_append out k now later) ∙ ap (sets out k) (sym is) ∙ p.put;
+    place = omega (arith, w.0, ap length is, length-append now later, p.place);
+  }
+
+-- all are put
+pub putting_end : {l out : List ℕ} {o k : ℕ} {all rest : List ℕ} → Putting l out o k all rest → rest ≡ [] → WordsPut all l out o k
+putting_end {out = out} {k = k} p e = (omega (arith, p.place, ap length e), ap (sets out k) (sym e) ∙ p.put)
+
+-- words stand, and others right behind them
+pub put_both : (l x out : List ℕ) (o k n : ℕ) (xs ys : List ℕ) → WordsPut xs l x o k → WordsPut ys x out k n → WordsPut (xs ++ ys) l out o n
+put_both l x out o k n xs ys a b = (
+  omega (arith, a.0, b.0, length-append xs ys),
+  b.1 ∙ ap₂ (λ (w : List ℕ) (j : ℕ). sets w j ys) a.1 a.0 ∙ sym (sets_append l o xs ys),
+)
+
+-- ---- rings
 
 -- the words of rings
 abbrev pub flat : List (List ℕ) → List ℕ
 flat rs = each (λ r. r) rs
 
--- rings stand, and others right behind them
-pub put_both : (l x out : List ℕ) (o k n : ℕ) (rs ss : List (List ℕ)) → RingsPut rs l x o k → RingsPut ss x out k n → RingsPut (rs ++ ss) l out o n
-put_both l x out o k n rs ss a b =
-    let h : k ≡ o + length (flat rs) = a.0 in (
-      omega (arith, a.0, b.0, total_append rs ss),
-      b.1
-          ∙ ap₂ (λ (w : List ℕ) (j : ℕ). sets w j (flat ss)) a.1 h
-          ∙ sym (sets_append l o (flat rs) (flat ss))
-          ∙ ap (sets l o) (sym (each_append (λ (r : List ℕ). r) rs ss)),
-    )
-
--- what was put, with the rings that are left, is all
-pub record Putting (l out : List ℕ) (o k : ℕ) (all rest : List (List ℕ)) : Type 0 where
-  pub put : sets out k (flat rest) ≡ sets l o (flat all)
-  pub place : k + ring_total rest ≡ o + ring_total all
-
-pub putting_start : (l : List ℕ) (o : ℕ) (all rest : List (List ℕ)) → rest ≡ all → Putting l l o o all rest
-putting_start l o all rest e = record { put = ap (λ (r : List (List ℕ)). sets l o (flat r)) e; place = ap (λ (r : List (List ℕ)). o + ring_total r) e }
-
-module _ {l out : List ℕ} {o k : ℕ} {all rest : List (List ℕ)} (p : Putting l out o k all rest) (now later : List (List ℕ)) (is : rest ≡ now ++ later) where
-  total_left : ring_total rest ≡ ring_total now + ring_total later
-  total_left = ap ring_total is ∙ total_append now later
-
-  -- there is room for the next rings
-  pub putting_room : o + ring_total all ≤ length l → length out ≡ length l → k + ring_total now ≤ length out
-  putting_room h e = omega (arith, total_left, p.place)
-
-  -- they are put
-  pub putting_next : (out' : List ℕ) (k' : ℕ) → out' ≡ sets out k (flat now) → k' ≡ k + ring_total now → Putting l out' o k' all later
-  putting_next out' k' a b = record {
-    put =
-        ap₂ (λ (w : List ℕ) (j : ℕ). sets w j (flat later)) a b
-        ∙ sym (sets_append out k (flat now) (flat later))
-        ∙ ap (sets out k) (sym (ap flat is ∙ each_append (λ (r : List ℕ). r) now later))
-        ∙ p.put;
-    place = omega (arith, b, total_left, p.place);
-  }
-
--- one ring is put
-pub putting_one : {l out : List ℕ} {o k : ℕ} {all rest : List (List ℕ)} → Putting l out o k all rest → (r : List ℕ) (later : List (List ℕ)) → rest ≡ r ∷ later
-    → (out' : List ℕ) (k' : ℕ) → out' ≡ sets out k r → k' ≡ k + length r → Putting l out' o k' all later
-putting_one {out = out} {k = k} p r later is out' k' a b =
-    let e = append-nil r in
-    putting_next p (r ∷ []) later is out' k' (a ∙ ap (sets out k) (sym e)) (b ∙ ap (λ (v : List ℕ). k + length v) (sym e))
-
--- all is put
-pub putting_end : {l out : List ℕ} {o k : ℕ} {all rest : List (List ℕ)} → Putting l out o k all rest → rest ≡ [] → RingsPut all l out o k
-putting_end {l} {out} {o} {k} {all} {rest} p e = (
-  omega (arith, p.place, ap ring_total e),
-  ap (λ (r : List (List ℕ)). sets out k (flat r)) (sym e) ∙ p.put,
-)
+-- those of a cell's rings, and of the rings behind them
+pub flat_cells : (c : Raw) (cs rest : List Raw) → rest ≡ c ∷ cs → flat (each rings_of rest) ≡ flat (rings_of c) ++ flat (each rings_of cs)
+flat_cells c cs rest is = ap (λ (l : List Raw). flat (each rings_of l)) is ∙ each_append (λ (r : List ℕ). r) (rings_of c) (each rings_of cs)
 
 -- ---- tables of local places
 

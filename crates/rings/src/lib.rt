@@ -9,7 +9,7 @@ ghost use Rattle.mesh.specs.Lent.{lent};
 ghost use Rattle.mesh.specs.Rings.{at as placed, phed_rings, rings_of};
 ghost use Rattle.mesh.specs.CellsRest.{cell_raw};
 ghost use Rattle.mesh.specs.Steps.{ring_total};
-ghost use Rattle.rings.specs.Put.{RingsPut};
+ghost use Rattle.rings.specs.Put.{WordsPut, RingsPut};
 
 use mesh::{Accepted, Cell, Kind, PhedRings};
 
@@ -34,7 +34,7 @@ const WEDGE_SIDES: [[u8; 4]; 3] = [[0, 1, 4, 3], [1, 2, 5, 4], [2, 0, 3, 5]];
 // The words at a ring's local places; answers the place behind them.
 fn put_ring<const N: usize>(words: &[u32], places: &[u8; N], out: &mut [u32], at: usize) -> usize
     requires { All (λ p. p < length words.now) places.now × (at + length places.now ≤ length out.old) }
-    ensures { (result ≡ at + length places.now) × (out.new ≡ sets out.old at (map (λ p. get_or words.now p 0) places.now)) }
+    ensures { WordsPut (map (λ p. get_or words.now p 0) places.now) out.old out.new at result }
 {
     for i in 0..N {
         out[at + i] = words[places[i] as usize];

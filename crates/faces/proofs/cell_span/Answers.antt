@@ -1,58 +1,57 @@
+use mathlib.Core.Path.{ap}
 use native.Mathlib.Omega.{arith}
-use Rattle.faces.proofs.Spanning.{tet_span, hex_span, of_rings, fixed_span, phed_span_lem}
-use Rattle.mesh.proofs.CellKinds.{the_fourth}
+use Rattle.mesh.specs.Kinds.{kind_number}
 use Rattle.mesh.proofs.ByKind.{tet_is, hex_is, wedge_is, phed_is}
+use Rattle.faces.proofs.Spanning.{tet_span, hex_span, wedge_three, wedge_four, of_rings, span_of_rings}
 use Rattle.faces.proofs.cell_span.Goals as goal
 
 pub overflow_mul-face : goal.overflow_mul-face
 overflow_mul-face c =
-    let a = c.args in
-    let t = tet_is a.kind a.words.now c.if-kind-eq1.true c.requires.0 in
-    omega (arith, of_rings a.kind a.words.now a.face t.1 c.requires.1)
+    let x = c.args.cell.now in
+    omega (arith, of_rings c.args.face (tet_is _ x.words.now (ap kind_number c.in-Tet4.is) x.well).1 c.requires)
 
-pub returns-then-kind-eq1 : goal.returns-then-kind-eq1
-returns-then-kind-eq1 c =
-    let a = c.args in
-    let t = tet_is a.kind a.words.now c.if-kind-eq1.true c.requires.0 in
-    let h = of_rings a.kind a.words.now a.face t.1 c.requires.1 in
-    let r = c.span_of.ensures in
-    fixed_span a.kind a.words.now a.face _ t.1 (λ z. omega arith) (tet_span a.words.now a.face _ h r.0 r.1) (omega (arith, h, r.0))
+pub returns-in-Tet4 : goal.returns-in-Tet4
+returns-in-Tet4 c =
+    let x = c.args.cell.now in
+    let e = (tet_is _ x.words.now (ap kind_number c.in-Tet4.is) x.well).1 in
+    let r = c.new.ensures in
+    span_of_rings e (tet_span x.words.now c.args.face _ (of_rings c.args.face e c.requires) r.0 r.1)
 
-pub overflow_mul-face-then-kind-eq2 : goal.overflow_mul-face-then-kind-eq2
-overflow_mul-face-then-kind-eq2 c =
-    let a = c.args in
-    let t = hex_is a.kind a.words.now c.if-kind-eq2.true c.requires.0 in
-    omega (arith, of_rings a.kind a.words.now a.face t.1 c.requires.1)
+pub overflow_mul-face-in-Hex8 : goal.overflow_mul-face-in-Hex8
+overflow_mul-face-in-Hex8 c =
+    let x = c.args.cell.now in
+    omega (arith, of_rings c.args.face (hex_is _ x.words.now (ap kind_number c.in-Hex8.is) x.well).1 c.requires)
 
-pub returns-then-kind-eq2 : goal.returns-then-kind-eq2
-returns-then-kind-eq2 c =
-    let a = c.args in
-    let t = hex_is a.kind a.words.now c.if-kind-eq2.true c.requires.0 in
-    let h = of_rings a.kind a.words.now a.face t.1 c.requires.1 in
-    let r = c.span_of-then-kind-eq2.ensures in
-    fixed_span a.kind a.words.now a.face _ t.1 (λ z. omega arith) (hex_span a.words.now a.face _ h r.0 r.1) (omega (arith, h, r.0))
+pub returns-in-Hex8 : goal.returns-in-Hex8
+returns-in-Hex8 c =
+    let x = c.args.cell.now in
+    let e = (hex_is _ x.words.now (ap kind_number c.in-Hex8.is) x.well).1 in
+    let r = c.new-in-Hex8.ensures in
+    span_of_rings e (hex_span x.words.now c.args.face _ (of_rings c.args.face e c.requires) r.0 r.1)
 
-pub wedge_span-requires : goal.wedge_span-requires
-wedge_span-requires c =
-    let a = c.args in
-    let t = wedge_is a.kind a.words.now c.if-kind-eq3.true c.requires.0 in
-    of_rings a.kind a.words.now a.face t.1 c.requires.1
+pub returns-in-Wedge6 : goal.returns-in-Wedge6
+returns-in-Wedge6 c =
+    let x = c.args.cell.now in
+    let e = (wedge_is _ x.words.now (ap kind_number c.in-Wedge6.is) x.well).1 in
+    let r = c.new-in-Wedge6.ensures in
+    span_of_rings e (wedge_three x.words.now c.args.face _ c.if-face-lt2.true r.0 r.1)
 
-pub returns-then-kind-eq3 : goal.returns-then-kind-eq3
-returns-then-kind-eq3 c =
-    let a = c.args in
-    let t = wedge_is a.kind a.words.now c.if-kind-eq3.true c.requires.0 in
-    let r = c.wedge_span.ensures in
-    fixed_span a.kind a.words.now a.face _ t.1 (λ z. omega arith) (r.0 a.words.now) (omega (arith, r.1))
+pub overflow_mul-face-in-Wedge6-2 : goal.overflow_mul-face-in-Wedge6-2
+overflow_mul-face-in-Wedge6-2 c =
+    let x = c.args.cell.now in
+    omega (arith, of_rings c.args.face (wedge_is _ x.words.now (ap kind_number c.in-Wedge6-2.is) x.well).1 c.requires)
+
+pub returns-in-Wedge6-2 : goal.returns-in-Wedge6-2
+returns-in-Wedge6-2 c =
+    let x = c.args.cell.now in
+    let e = (wedge_is _ x.words.now (ap kind_number c.in-Wedge6-2.is) x.well).1 in
+    let r = c.new-in-Wedge6-2.ensures in
+    span_of_rings e (wedge_four x.words.now c.args.face _ c.if-face-lt2.false (of_rings c.args.face e c.requires) r.0 r.1)
 
 pub phed_span-requires : goal.phed_span-requires
 phed_span-requires c =
-    let a = c.args in
-    let e = the_fourth a.kind c.requires.0.kind c.if-kind-eq1.false c.if-kind-eq2.false c.if-kind-eq3.false in
-    (of_rings a.kind a.words.now a.face (phed_is a.kind a.words.now e) c.requires.1, c.requires.2)
+    let x = c.args.cell.now in
+    (of_rings c.args.face (phed_is _ x.words.now (ap kind_number c.in-Phed.is)) c.requires, omega (arith, x.small))
 
-pub returns : goal.returns
-returns c =
-    let a = c.args in
-    let e = the_fourth a.kind c.requires.0.kind c.if-kind-eq1.false c.if-kind-eq2.false c.if-kind-eq3.false in
-    phed_span_lem a.kind a.words.now a.face _ e c.phed_span.ensures
+pub returns-in-Phed : goal.returns-in-Phed
+returns-in-Phed c = span_of_rings (phed_is _ c.args.cell.now.words.now (ap kind_number c.in-Phed.is)) c.phed_span.ensures

@@ -1,34 +1,47 @@
+use Prim.Native.Nat.{ℕ}
+use mathlib.Core.Path.{◌≡◌, ap, ◌∙◌}
+use mathlib.Core.List.{[]}
 use native.Mathlib.Omega.{arith}
-use Rattle.faces.proofs.Polyhedra.{running_start, running_short, running_on, running_found, running_more}
-use mathlib.Core.Path.{refl}
+use lib.ListN.{length, get_or, take}
+use Rattle.mesh.specs.Rings.{phed_rings}
+use Rattle.mesh.specs.Steps.{ring_total}
+use Rattle.mesh.specs.PhedRest.{phed_rest}
+use Rattle.mesh.proofs.RunTallies.{phed_few}
+use Rattle.faces.proofs.Rings.{total_more, span_within}
+use Rattle.faces.proofs.Taking.{item_left, item_next}
 use Rattle.faces.proofs.phed_span.Goals as goal
 
-pub loop-i-init : goal.loop-i-init
-loop-i-init c = running_start c.args.words.now c.args.face c.requires.0
+pub unwrap-requires : goal.unwrap-requires
+unwrap-requires c =
+    let l = c.loop in
+    item_left (λ r. r.now) phed_rest _ l.rings c.next.new.self (phed_rings c.args.words.now) l.counter c.next.ensures.steps l.invariant.0 (omega arith)
 
-pub loop-i-preserved-then-n-lt3 : goal.loop-i-preserved-then-n-lt3
-loop-i-preserved-then-n-lt3 c =
-    let a = c.args in
-    let l = c.loop-i in
-    let r = c.run_end-e.ensures in
-    running_short a.words.now a.face l.left l.start l.i l.invariant _ _ r.0 r.1 c.loop-i-test.true refl c.if-n-lt3.true
+pub overflow_add-start : goal.overflow_add-start
+overflow_add-start c =
+    let rs = phed_rings c.args.words.now in
+    let l = c.loop in
+    let p = item_next (λ r. r.now) phed_rest _ _ l.rings c.next.new.self rs l.counter [] c.unwrap.ensures c.next.ensures.steps l.invariant.0 (omega arith) in
+    omega (arith, ap length p.0, span_within rs l.counter (omega arith), phed_few c.args.words.now, l.invariant.1)
 
-pub returns-then-left-eq0 : goal.returns-then-left-eq0
-returns-then-left-eq0 c =
-    let a = c.args in
-    let l = c.loop-i in
-    let r = c.run_end-e.ensures in
-    running_found a.words.now a.face l.left l.start l.i l.invariant _ _ r.0 r.1 c.loop-i-test.true refl (omega arith) c.if-left-eq0.true _ refl refl refl
+pub loop-preserved : goal.loop-preserved
+loop-preserved c =
+    let rs = phed_rings c.args.words.now in
+    let l = c.loop in
+    let p = item_next (λ r. r.now) phed_rest _ _ l.rings c.next.new.self rs l.counter [] c.unwrap.ensures c.next.ensures.steps l.invariant.0 (omega arith) in
+    (p.1, omega (arith, ap length p.0, total_more rs l.counter (omega arith), l.invariant.1))
 
-pub loop-i-preserved : goal.loop-i-preserved
-loop-i-preserved c =
-    let a = c.args in
-    let l = c.loop-i in
-    let r = c.run_end-e.ensures in
-    running_on a.words.now a.face l.left l.start l.i l.invariant _ _ r.0 r.1 c.loop-i-test.true refl (omega arith) (omega arith)
+pub unwrap-requires-2 : goal.unwrap-requires-2
+unwrap-requires-2 c =
+    let l = c.loop in
+    item_left (λ r. r.now) phed_rest _ l.rings c.next-2.new.self (phed_rings c.args.words.now) l.counter c.next-2.ensures.steps l.invariant.0 (omega arith)
 
 pub returns : goal.returns
 returns c =
-    let a = c.args in
-    let l = c.loop-i in
-    absurd (running_more a.words.now a.face l.left l.start l.i l.invariant (omega arith))
+    let rs = phed_rings c.args.words.now in
+    let l = c.loop in
+    let p = item_next (λ r. r.now) phed_rest _ _ l.rings c.next-2.new.self rs l.counter [] c.unwrap-2.ensures c.next-2.ensures.steps l.invariant.0 (omega arith) in
+    let e : l.counter ≡ c.args.face = omega arith in
+    record {
+      start = c.new.ensures.0 ∙ l.invariant.1 ∙ ap (λ (k : ℕ). ring_total (take k rs)) e;
+      len = c.new.ensures.1 ∙ ap length p.0 ∙ ap (λ (k : ℕ). length (get_or rs k [])) e;
+    }

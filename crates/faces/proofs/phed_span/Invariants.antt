@@ -1,10 +1,10 @@
-use Rattle.faces.proofs.Polyhedra.{Running}
-use lib.ListN.{length}
-use Prim.Native.Nat.{◌-◌}
+use mathlib.Core.Path.{◌≡◌}
+use lib.ListN.{take, drop}
+use Rattle.mesh.specs.Rings.{phed_rings}
+use Rattle.mesh.specs.Steps.{ring_total}
+use Rattle.mesh.specs.PhedRest.{phed_rest}
 use Rattle.faces.proofs.phed_span.Given as goal
 
-abbrev pub invariant-loop-i : goal.invariant-loop-i
-invariant-loop-i l = Running l.words l.face l.left l.start l.i
-
-abbrev pub decreases-loop-i : goal.decreases-loop-i
-decreases-loop-i l = length l.words - l.i
+abbrev pub invariant-loop : goal.invariant-loop
+invariant-loop l =
+    (phed_rest l.rings ≡ drop l.counter (phed_rings l.words)) × (l.start ≡ ring_total (take l.counter (phed_rings l.words)))

@@ -8,7 +8,7 @@ use Rattle.mesh.specs.Rings.{at, tet_rings, hex_rings, rings_of}
 use Rattle.mesh.specs.Steps.{ring_total}
 use Rattle.mesh.proofs.ByKind.{tet_is, hex_is, wedge_is, phed_is}
 use Rattle.rings.specs.Put.{RingsPut}
-use Rattle.rings.proofs.Putting.{wedge_ends, wedge_sides, put_both, table_asks}
+use Rattle.rings.proofs.Putting.{flat, wedge_ends, wedge_sides, put_both, table_asks}
 use Rattle.rings.proofs.put_cell.Goals as goal
 
 -- ---- tetrahedra
@@ -67,7 +67,7 @@ returns-in-Wedge6 c =
     let k = c.put_rings-k in
     let r = c.put_rings-in-Wedge6 in
     subst (λ (R : List (List ℕ)). RingsPut R a.out.now r.new.out a.at r.result) (sym (wedge_is _ ws (ap kind_number c.in-Wedge6.is) x.well).1)
-    (put_both a.out.now k.new.out r.new.out a.at k.result r.result (at ws wedge_ends) (at ws wedge_sides) k.ensures r.ensures)
+    (put_both a.out.now k.new.out r.new.out a.at k.result r.result (flat (at ws wedge_ends)) (flat (at ws wedge_sides)) k.ensures r.ensures)
 
 -- ---- PHEDs
 
