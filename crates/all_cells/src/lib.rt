@@ -109,11 +109,10 @@ pub fn keep_repeats(model: &Model, work: &mut [u32], l: layout::Layout, sink: &m
     ensures kept_any { KeptAny model.now.coords.now (each (repeat_in l (input l.at work.old) model.now.kinds.now model.now.ends.now model.now.words.now) (up_from 0 l.at.cell_count)) sink.old sink.new }
     ensures upper_bound { (sink.new.count ≤ sink.old.count + 2 ^ 40) × Still l work.old work.new }
 {
-    let m = *model;
     let mut from = 0;
     for c in 0..l.at.cell_count {
-        let e = m.ends[c] as usize;
-        repeated_nodes::keep_repeated(m.coords, &m.words[from..e], work, l, c, sink);
+        let e = model.ends[c] as usize;
+        repeated_nodes::keep_repeated(model.coords, &model.words[from..e], work, l, c, sink);
         from = e;
     }
 }

@@ -20,10 +20,10 @@ use Rattle.all_cells.proofs.keep_repeats.Goals as goal
 pub loop-c-init : goal.loop-c-init
 loop-c-init c =
     let a = c.args in record {
-      kept = λ tol. kept_none (plain_rules a.coords.now tol) a.sink.now;
+      kept = λ tol. kept_none (plain_rules a.model.now.coords.now tol) a.sink.now;
       few = omega arith;
       still = still_self a.l a.work.now c.requires.standing;
-      begins = begins_first a.kinds.now a.ends.now a.words.now c.requires.nodes_value.1.order;
+      begins = begins_first a.model.now.kinds.now a.model.now.ends.now a.model.now.words.now c.requires.nodes_value.1.order;
     }
 
 pub offset_bounds-ends-c : goal.offset_bounds-ends-c
@@ -37,8 +37,8 @@ offset_bounds-words-from c =
     let a = c.args in
     let q = c.requires.nodes_value.1 in
     let o = c.loop-c in
-    let more : o.c < length a.kinds.now = omega (arith, q.counted) in
-    let ends = cell_ends a.kinds.now a.ends.now a.words.now o.from o.c o.invariant.begins more q.paired (get_or a.ends.now o.c 0) refl in
+    let more : o.c < length a.model.now.kinds.now = omega (arith, q.counted) in
+    let ends = cell_ends a.model.now.kinds.now a.model.now.ends.now a.model.now.words.now o.from o.c o.invariant.begins more q.paired (get_or a.model.now.ends.now o.c 0) refl in
     omega (arith, ends.0, ends.1)
 
 pub slice_bounds-keep_repeated-count : goal.slice_bounds-keep_repeated-count
@@ -46,8 +46,8 @@ slice_bounds-keep_repeated-count c =
     let a = c.args in
     let q = c.requires.nodes_value.1 in
     let o = c.loop-c in
-    let more : o.c < length a.kinds.now = omega (arith, q.counted) in
-    let ends = cell_ends a.kinds.now a.ends.now a.words.now o.from o.c o.invariant.begins more q.paired (get_or a.ends.now o.c 0) refl in
+    let more : o.c < length a.model.now.kinds.now = omega (arith, q.counted) in
+    let ends = cell_ends a.model.now.kinds.now a.model.now.ends.now a.model.now.words.now o.from o.c o.invariant.begins more q.paired (get_or a.model.now.ends.now o.c 0) refl in
     omega (arith, ends.0, ends.1)
 
 pub slice_bounds-keep_repeated-start : goal.slice_bounds-keep_repeated-start
@@ -55,8 +55,8 @@ slice_bounds-keep_repeated-start c =
     let a = c.args in
     let q = c.requires.nodes_value.1 in
     let o = c.loop-c in
-    let more : o.c < length a.kinds.now = omega (arith, q.counted) in
-    let ends = cell_ends a.kinds.now a.ends.now a.words.now o.from o.c o.invariant.begins more q.paired (get_or a.ends.now o.c 0) refl in
+    let more : o.c < length a.model.now.kinds.now = omega (arith, q.counted) in
+    let ends = cell_ends a.model.now.kinds.now a.model.now.ends.now a.model.now.words.now o.from o.c o.invariant.begins more q.paired (get_or a.model.now.ends.now o.c 0) refl in
     omega (arith, ends.0, ends.1)
 
 pub slice_bounds-keep_repeated-end : goal.slice_bounds-keep_repeated-end
@@ -64,8 +64,8 @@ slice_bounds-keep_repeated-end c =
     let a = c.args in
     let q = c.requires.nodes_value.1 in
     let o = c.loop-c in
-    let more : o.c < length a.kinds.now = omega (arith, q.counted) in
-    let ends = cell_ends a.kinds.now a.ends.now a.words.now o.from o.c o.invariant.begins more q.paired (get_or a.ends.now o.c 0) refl in
+    let more : o.c < length a.model.now.kinds.now = omega (arith, q.counted) in
+    let ends = cell_ends a.model.now.kinds.now a.model.now.ends.now a.model.now.words.now o.from o.c o.invariant.begins more q.paired (get_or a.model.now.ends.now o.c 0) refl in
     omega (arith, ends.0, ends.1)
 
 pub keep_repeated-requires : goal.keep_repeated-requires
@@ -73,10 +73,10 @@ keep_repeated-requires c =
     let a = c.args in
     let q = c.requires.nodes_value.1 in
     let o = c.loop-c in
-    let more : o.c < length a.kinds.now = omega (arith, q.counted) in
-    let ends = cell_ends a.kinds.now a.ends.now a.words.now o.from o.c o.invariant.begins more q.paired (get_or a.ends.now o.c 0) refl in
-    let is = cell_words a.kinds.now a.ends.now a.words.now o.from o.c o.invariant.begins more q.paired (get_or a.ends.now o.c 0) refl in
-    let long = cell_long a.kinds.now a.ends.now a.words.now o.from o.c o.invariant.begins more q.paired (get_or a.ends.now o.c 0) refl in
+    let more : o.c < length a.model.now.kinds.now = omega (arith, q.counted) in
+    let ends = cell_ends a.model.now.kinds.now a.model.now.ends.now a.model.now.words.now o.from o.c o.invariant.begins more q.paired (get_or a.model.now.ends.now o.c 0) refl in
+    let is = cell_words a.model.now.kinds.now a.model.now.ends.now a.model.now.words.now o.from o.c o.invariant.begins more q.paired (get_or a.model.now.ends.now o.c 0) refl in
+    let long = cell_long a.model.now.kinds.now a.model.now.ends.now a.model.now.words.now o.from o.c o.invariant.begins more q.paired (get_or a.model.now.ends.now o.c 0) refl in
     record {
       standing = o.invariant.still.standing;
       c_bound = (omega (arith, q.counted), c.requires.nodes_value.0, omega (arith, long, ends.1, q.words), subst (λ (ws : List ℕ). AllBelow a.l.at.nodes (nodes_in ws)) (sym is) (q.known o.c more));
@@ -88,19 +88,19 @@ loop-c-preserved c =
     let a = c.args in
     let q = c.requires.nodes_value.1 in
     let o = c.loop-c in
-    let more : o.c < length a.kinds.now = omega (arith, q.counted) in
-    let is = cell_words a.kinds.now a.ends.now a.words.now o.from o.c o.invariant.begins more q.paired (get_or a.ends.now o.c 0) refl in
+    let more : o.c < length a.model.now.kinds.now = omega (arith, q.counted) in
+    let is = cell_words a.model.now.kinds.now a.model.now.ends.now a.model.now.words.now o.from o.c o.invariant.begins more q.paired (get_or a.model.now.ends.now o.c 0) refl in
     let z = c.keep_repeated in
     let g = z.new.sink in
     let t = input a.l.at a.work.now in
-    let next : KeptAny a.coords.now (repeat_in a.l t a.kinds.now a.ends.now a.words.now o.c) o.sink g =
-    λ tol. subst (λ (ws : List ℕ). Kept (plain_rules a.coords.now tol) (repeat_cell a.l t o.c ws) o.sink g) is
-    (subst (λ (x : List ℕ). Kept (plain_rules a.coords.now tol) (repeat_cell a.l x o.c (take (get_or a.ends.now o.c 0 - o.from) (drop o.from a.words.now))) o.sink g) (still_input a.l a.work.now o.work c.requires.standing o.invariant.still) (z.ensures.kept_any tol)) in
+    let next : KeptAny a.model.now.coords.now (repeat_in a.l t a.model.now.kinds.now a.model.now.ends.now a.model.now.words.now o.c) o.sink g =
+    λ tol. subst (λ (ws : List ℕ). Kept (plain_rules a.model.now.coords.now tol) (repeat_cell a.l t o.c ws) o.sink g) is
+    (subst (λ (x : List ℕ). Kept (plain_rules a.model.now.coords.now tol) (repeat_cell a.l x o.c (take (get_or a.model.now.ends.now o.c 0 - o.from) (drop o.from a.model.now.words.now))) o.sink g) (still_input a.l a.work.now o.work c.requires.standing o.invariant.still) (z.ensures.kept_any tol)) in
     record {
-      kept = λ tol. pass_next (plain_rules a.coords.now tol) (repeat_in a.l t a.kinds.now a.ends.now a.words.now) o.c a.sink.now o.sink g (o.invariant.kept tol) (next tol);
+      kept = λ tol. pass_next (plain_rules a.model.now.coords.now tol) (repeat_in a.l t a.model.now.kinds.now a.model.now.ends.now a.model.now.words.now) o.c a.sink.now o.sink g (o.invariant.kept tol) (next tol);
       few = omega (arith, o.invariant.few, z.ensures.upper_bound.0);
       still = still_then a.l a.work.now o.work z.new.work o.invariant.still z.ensures.upper_bound.1;
-      begins = begins_next a.kinds.now a.ends.now a.words.now o.from o.c o.invariant.begins more q.paired (get_or a.ends.now o.c 0) refl;
+      begins = begins_next a.model.now.kinds.now a.model.now.ends.now a.model.now.words.now o.from o.c o.invariant.begins more q.paired (get_or a.model.now.ends.now o.c 0) refl;
     }
 
 pub returns : goal.returns
@@ -109,6 +109,6 @@ returns c =
     let o = c.loop-c in
     let done : o.c ≡ a.l.at.cell_count = omega arith in
     record {
-      kept_any = λ tol. pass_end (plain_rules a.coords.now tol) (repeat_in a.l (input a.l.at a.work.now) a.kinds.now a.ends.now a.words.now) o.c a.l.at.cell_count a.sink.now o.sink done (o.invariant.kept tol);
+      kept_any = λ tol. pass_end (plain_rules a.model.now.coords.now tol) (repeat_in a.l (input a.l.at a.work.now) a.model.now.kinds.now a.model.now.ends.now a.model.now.words.now) o.c a.l.at.cell_count a.sink.now o.sink done (o.invariant.kept tol);
       upper_bound = (omega (arith, o.invariant.few, done, c.requires.standing.spaced.few_cells), o.invariant.still);
     }
