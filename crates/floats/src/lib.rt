@@ -82,7 +82,7 @@ fn of_power(p: u64, a: u64) -> f64
     }
 }
 
-// IEEE 754's squareRoot, of every value.
+// IEEE 754's squareRoot, of every value. Its parts by shifts and masks, and its digits by a recursion, as document 01 asks: so no `f64::sqrt`.
 pub fn sqrt(x: f64) -> f64
     ensures { result ≡ Spec.sqrt x }
 {

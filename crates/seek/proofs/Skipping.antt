@@ -16,7 +16,7 @@ use Rattle.laws.proofs.Ascending.{asc_keep, keep_cong, keep_skip, first_low}
 use Rattle.index.specs.declared.Places.{Places}
 use Rattle.index.specs.Faces.{input, nodes_of, faces_with}
 use Rattle.merge.specs.Runs.{rest}
-use Rattle.merge.proofs.RunLaws.{rest_cons, rest_none}
+use Rattle.merge.proofs.RunLaws.{rest_cons}
 use Rattle.seek.specs.Candidates.{shares}
 use Rattle.seek.specs.Steps.{Runs, Hidden, Rising, AllRising, Passed, up_to}
 use Rattle.seek.proofs.Merging.{keep_all, asc_faces}
@@ -37,10 +37,6 @@ module _ (g i e : ℕ) (b : List ℕ) where
   -- at one that is not, all are kept
   pub skip_stop : i < e → e ≤ length b → g ≤ get_or b i 0 → Rising i e b → rest i e b ≡ keep (leb g) (rest i e b)
   skip_stop h long high up = sym (keep_high g (rest i e b) (λ n f. omega (arith, high, first_low (rest i e b) 0 n up f, ap (λ (l : List ℕ). get_or l 0 0) (rest_cons i e b h long))))
-
-  -- and at the end none
-  pub skip_end : e ≤ i → rest i e b ≡ keep (leb g) (rest i e b)
-  skip_end h = rest_none i e b h ∙ sym (ap (keep (leb g)) (rest_none i e b h))
 
 -- ---- all runs
 

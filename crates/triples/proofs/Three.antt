@@ -63,9 +63,6 @@ pub record Seen (A B : List ℕ) (n i m : ℕ) : Type 0 where
   pub left : n + length (common (drop i A) (drop m B)) ≡ length (common A B)
   pub few : n ≤ 2
 
-pub seen_start : (A B : List ℕ) → Seen A B 0 0 0
-seen_start A B = record { left = omega arith; few = omega arith }
-
 module _ (A B : List ℕ) (up : Asc A) (to : Asc B) (n i m a b : ℕ) (s : Seen A B n i m) (h : i < length A) (k : m < length B) (is-a : a ≡ get_or A i 0) (is_b : b ≡ get_or B m 0) where
   -- the two lists from there on
   A_is : drop i A ≡ a ∷ drop (i + 1) A
