@@ -53,8 +53,8 @@ fn place(work: &[u32], at: Regions, n: u32) -> usize
     requires { Numbered work.now at n }
     ensures { result ≡ place_of at work.now n }
 {
-    let i = at.weld + mesh::wide(n);
-    at.last + mesh::wide(work[i])
+    let i = at.weld + n as usize;
+    at.last + work[i] as usize
 }
 
 // Node n, behind k pairs: its pair is put behind them, its mark is put, and there are as many pairs as said.

@@ -26,14 +26,14 @@ loop-c-init c =
       begins = begins_first a.model.now.kinds.now a.model.now.ends.now a.model.now.words.now c.requires.nodes_value.1.order;
     }
 
-pub offset_bounds-ends-c : goal.offset_bounds-ends-c
-offset_bounds-ends-c c = omega (arith, c.requires.nodes_value.1.counted, c.requires.nodes_value.1.paired)
+pub offset_bounds-model-c : goal.offset_bounds-model-c
+offset_bounds-model-c c = omega (arith, c.requires.nodes_value.1.counted, c.requires.nodes_value.1.paired)
 
-pub bounds-ends-c : goal.bounds-ends-c
-bounds-ends-c c = omega (arith, c.requires.nodes_value.1.counted, c.requires.nodes_value.1.paired)
+pub bounds-model-c : goal.bounds-model-c
+bounds-model-c c = omega (arith, c.requires.nodes_value.1.counted, c.requires.nodes_value.1.paired)
 
-pub offset_bounds-words-from : goal.offset_bounds-words-from
-offset_bounds-words-from c =
+pub offset_bounds-model-from : goal.offset_bounds-model-from
+offset_bounds-model-from c =
     let a = c.args in
     let q = c.requires.nodes_value.1 in
     let o = c.loop-c in
