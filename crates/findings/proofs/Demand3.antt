@@ -15,14 +15,13 @@ use Rattle.mesh.specs.Model.{Model, Raw, contains, TOPOLOGY, cells_of}
 use Rattle.mesh.specs.Rings.{rings_of, numbered, same_key}
 use Rattle.mesh.specs.Lookup.{face_at}
 use Rattle.mesh.specs.Acceptance.{model_refusal, faces_in, work_needed}
+use Rattle.laws.specs.Refusals.{Answer, done}
 use Rattle.findings.specs.Findings.{Rules, Finding, full}
 use Rattle.findings.specs.Rules.{bow_of, rules_with, rules_of, full_of}
 use Rattle.findings.specs.Records.{fields_of, record_of, kept_of, kept_bytes}
 use Rattle.findings.specs.Check.{totals_of, check_refusal, Checking}
 use Rattle.findings.specs.Compared.{none, shares, names_pair, moved, reordered, compared}
 use Rattle.findings.specs.Demand3.{PartlyShared, PairIn, Reordering, read_back, Below, Reported}
-use Rattle.std.specs.Prelude.{Result, Ok}
-use Rattle.refusals.specs.declared.Refusal.{Refusal}
 use Rattle.findings.specs.declared.Totals.{Totals}
 use Rattle.findings.proofs.Exact.{exact}
 use Rattle.findings.proofs.ByKind.{only, unasked}
@@ -181,24 +180,24 @@ pub kept_within : (m : Model) (lent : ℕ) → (length (kept_bytes (rules_of m) 
 kept_within m lent = (kept_64 m lent, kept_fits m lent)
 
 -- which stay as many.
-pub lent_stays : (m : Model) (findings findings' work work' : List ℕ) (r : Result Totals Refusal) → Checking m findings findings' work work' r → length findings' ≡ length findings
+pub lent_stays : (m : Model) (findings findings' work work' : List ℕ) (r : Answer Totals) → Checking m findings findings' work work' r → length findings' ≡ length findings
 lent_stays = lent_length
 
 -- So a check that keeps its promise and answers with a report of t, k kept, says this.
-pub report_says : (m : Model) (findings findings' work work' : List ℕ) (t : Totals) → Checking m findings findings' work work' (Ok t) → Reported m findings findings' t.total t.kept
+pub report_says : (m : Model) (findings findings' work work' : List ℕ) (t : Totals) → Checking m findings findings' work work' (done t) → Reported m findings findings' t.total t.kept
 report_says = report_is
 
 -- Where k is t, every finding's record is there.
-pub report_whole : (m : Model) (findings findings' work work' : List ℕ) (t : Totals) → Checking m findings findings' work work' (Ok t) → t.kept ≡ t.total
+pub report_whole : (m : Model) (findings findings' work work' : List ℕ) (t : Totals) → Checking m findings findings' work work' (done t) → t.kept ≡ t.total
     → findings' ≡ each (record_of (rules_of m)) (full_of m) ++ drop (length (each (record_of (rules_of m)) (full_of m))) findings
 report_whole = all_kept
 
 -- "all else of the model and the lent lengths stay": an accepted model and its reordering get the same answer, total and kept.
-pub answers_reordered : (m : Model) (σ f f' w w' g g' v v' : List ℕ) (r s : Result Totals Refusal) → model_refusal m ≡ 0 → Reordering m σ → length f ≡ length g → length w ≡ length v
+pub answers_reordered : (m : Model) (σ f f' w w' g g' v v' : List ℕ) (r s : Answer Totals) → model_refusal m ≡ 0 → Reordering m σ → length f ≡ length g → length w ≡ length v
     → Checking m f f' w w' r → Checking (reordered σ m) g g' v v' s → s ≡ r
 answers_reordered = same_answer
 
 -- A report of nothing, with the topology check on, says that no two different cells share partly: no hold reads as conforming with a pair passed over.
-pub nothing_passed_over : (m : Model) (f f' w w' : List ℕ) (t : Totals) → Checking m f f' w w' (Ok t) → t.total ≡ 0 → contains m.flags TOPOLOGY ≡ true
+pub nothing_passed_over : (m : Model) (f f' w w' : List ℕ) (t : Totals) → Checking m f f' w w' (done t) → t.total ≡ 0 → contains m.flags TOPOLOGY ≡ true
     → (i j : ℕ) → i ≢ j → i < length (cells_of m) → j < length (cells_of m) → PartlyShared (rules_of m) (get_or (cells_of m) i none) (get_or (cells_of m) j none) → ⊥
 nothing_passed_over = none_shared

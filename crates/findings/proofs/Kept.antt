@@ -9,7 +9,7 @@ use lib.Dec.{eqb}
 use lib.ListN.{length, get_or, take, drop, length-append, length-take, length-drop}
 use lib.Seq.{take-length}
 use Rattle.laws.specs.Lists.{each}
-use Rattle.laws.specs.Refusals.{refusal, answer}
+use Rattle.laws.specs.Refusals.{Answer, done, refusal, answer}
 use Rattle.laws.proofs.ListLaws.{keep-length}
 use Rattle.laws.proofs.Tables.{answered_done}
 use Rattle.mesh.specs.Model.{Model, contains, TOPOLOGY, cells_of}
@@ -17,9 +17,6 @@ use Rattle.mesh.specs.Acceptance.{model_refusal, check_table}
 use Rattle.findings.specs.Findings.{Rules, Finding}
 use Rattle.findings.specs.Rules.{rules_of, full_of}
 use Rattle.findings.specs.Records.{record_bytes, record_of, kept_of, kept_bytes}
-use Rattle.std.specs.Prelude.{Result, Ok}
-use Rattle.refusals.specs.declared.Refusal.{Refusal}
-use Rattle.refusals.proofs.Told.{told_same}
 use Rattle.findings.specs.declared.Totals.{Totals}
 use Rattle.findings.specs.Check.{totals_of, check_refusal, Checking}
 use Rattle.findings.specs.Compared.{none, names_pair, with_cells, reordered}
@@ -48,7 +45,7 @@ unfolding totals_of kept_of
 kept_fits m lent = omega arith
 
 -- so a check leaves as many bytes as were lent
-pub lent_length : (m : Model) (f f' w w' : List ℕ) (r : Result Totals Refusal) → Checking m f f' w w' r → length f' ≡ length f
+pub lent_length : (m : Model) (f f' w w' : List ℕ) (r : Answer Totals) → Checking m f f' w w' r → length f' ≡ length f
 lent_length m f f' w w' r c = ap length c.memory.findings_are ∙ go (eqb (check_refusal m w) 0)
   where
     kept : List ℕ
@@ -59,7 +56,7 @@ lent_length m f f' w w' r c = ap length c.memory.findings_are ∙ go (eqb (check
     go false = refl
 
 -- a report is what it should be
-pub report_is : (m : Model) (findings findings' work work' : List ℕ) (t : Totals) → Checking m findings findings' work work' (Ok t) → Reported m findings findings' t.total t.kept
+pub report_is : (m : Model) (findings findings' work work' : List ℕ) (t : Totals) → Checking m findings findings' work work' (done t) → Reported m findings findings' t.total t.kept
 unfolding totals_of kept_of kept_bytes
 report_is m findings findings' work work' t c =
     let p = answered_done (check_refusal m work) t (totals_of m (length findings)) c.answered in
@@ -72,26 +69,26 @@ report_is m findings findings' work work' t c =
     }
 
 -- an accepted model and its reordering are answered alike, for the same lent lengths
-pub same_answer : (m : Model) (σ f f' w w' g g' v v' : List ℕ) (r s : Result Totals Refusal) → model_refusal m ≡ 0 → Reordering m σ → length f ≡ length g → length w ≡ length v
+pub same_answer : (m : Model) (σ f f' w w' g g' v v' : List ℕ) (r s : Answer Totals) → model_refusal m ≡ 0 → Reordering m σ → length f ≡ length g → length w ≡ length v
     → Checking m f f' w w' r → Checking (reordered σ m) g g' v v' s → s ≡ r
 unfolding totals_of reordered with_cells
 same_answer m σ f f' w w' g g' v v' r s e q lf lw c d =
     let n : check_refusal (reordered σ m) v ≡ check_refusal m w = same_check m σ v e q ∙ ap (λ (k : ℕ). refusal (check_table m k)) (sym lw) in
     let t : totals_of (reordered σ m) (length g) ≡ totals_of m (length f) =
     ap₂ (λ (x l : ℕ). totals m.cap x l) (same_total m σ q.permutes) (sym lf) in
-    told_same s r (d.answered ∙ ap₂ (λ (k : ℕ) (x : Totals). answer k x) n t ∙ sym c.answered)
+    d.answered ∙ ap₂ (λ (k : ℕ) (x : Totals). answer k x) n t ∙ sym c.answered
   where
     totals : ℕ → ℕ → ℕ → Totals
     totals most x l = record { total = x; kept = kept_of most x l }
 
 -- a report of nothing, with the topology check on: no two cells share partly
-pub none_shared : (m : Model) (f f' w w' : List ℕ) (t : Totals) → Checking m f f' w w' (Ok t) → t.total ≡ 0 → contains m.flags TOPOLOGY ≡ true
+pub none_shared : (m : Model) (f f' w w' : List ℕ) (t : Totals) → Checking m f f' w w' (done t) → t.total ≡ 0 → contains m.flags TOPOLOGY ≡ true
     → (i j : ℕ) → i ≢ j → i < length (cells_of m) → j < length (cells_of m) → PartlyShared (rules_of m) (get_or (cells_of m) i none) (get_or (cells_of m) j none) → ⊥
 none_shared m f f' w w' t c z q i j d hi hj h =
     omega (arith, (report_is m f f' w w' t c).total, once m i j q d hi hj h, keep-length (names_pair i j) (full_of m))
 
 -- a report that keeps all it counts has the record of every finding
-pub all_kept : (m : Model) (f f' w w' : List ℕ) (t : Totals) → Checking m f f' w w' (Ok t) → t.kept ≡ t.total
+pub all_kept : (m : Model) (f f' w w' : List ℕ) (t : Totals) → Checking m f f' w w' (done t) → t.kept ≡ t.total
     → f' ≡ each (record_of (rules_of m)) (full_of m) ++ drop (length (each (record_of (rules_of m)) (full_of m))) f
 all_kept m f f' w w' t c z =
     let r = report_is m f f' w w' t c in

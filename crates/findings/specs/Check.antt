@@ -1,8 +1,6 @@
 -- Checking a model: why it refuses, what it answers, and what the finding records and the work hold afterwards.
-use Rattle.std.specs.Prelude.{ℕ, List, ◌≡◌, length, replicate, Result}
-use Rattle.laws.specs.Refusals.{refusal, answer, filled}
-use Rattle.refusals.specs.Told.{told}
-use Rattle.refusals.specs.declared.Refusal.{Refusal}
+use Rattle.std.specs.Prelude.{ℕ, List, ◌≡◌, length, replicate}
+use Rattle.laws.specs.Refusals.{Answer, refusal, answer, filled}
 use Rattle.mesh.specs.Model.{Model}
 use Rattle.mesh.specs.Acceptance.{work_needed, check_table}
 use Rattle.findings.specs.Rules.{rules_of, full_of}
@@ -22,6 +20,6 @@ pub record CheckMemory (m : Model) (findings findings' work work' : List ℕ) : 
   pub work_is : work' ≡ filled (check_refusal m work) (replicate (work_needed m) 0) work
 
 -- The check's promise: the answer, and lent memory.
-pub record Checking (m : Model) (findings findings' work work' : List ℕ) (r : Result Totals Refusal) : Type 0 where
-  pub answered : told r ≡ answer (check_refusal m work) (totals_of m (length findings))
+pub record Checking (m : Model) (findings findings' work work' : List ℕ) (r : Answer Totals) : Type 0 where
+  pub answered : r ≡ answer (check_refusal m work) (totals_of m (length findings))
   pub memory : CheckMemory m findings findings' work work'

@@ -23,12 +23,11 @@ use Rattle.mesh.proofs.Accepts.{accepts}
 use Rattle.snap.specs.Weld.{welded_by}
 use Rattle.welding.specs.Used.{used_nodes, welds_of}
 use Rattle.welding.proofs.Loose.{loose_stays}
+use Rattle.laws.specs.Refusals.{Answer}
 use Rattle.findings.specs.Findings.{Rules, Finding, bowtie, overfull, partly, repeated}
 use Rattle.findings.specs.Rules.{rules_of, full_of}
 use Rattle.findings.specs.Records.{fields_of, centre_in, record_bytes, record_of, kept_bytes}
 use Rattle.findings.specs.Check.{totals_of, Checking}
-use Rattle.std.specs.Prelude.{Result}
-use Rattle.refusals.specs.declared.Refusal.{Refusal}
 use Rattle.findings.specs.declared.Totals.{Totals}
 use Rattle.renumber.specs.Renumbering.{Used, word_by, renamed, record_by}
 use Rattle.renumber.specs.Loose.{LooseApart, with_behind}
@@ -91,7 +90,7 @@ module _ (m n : Model) (h : LooseApart m n) (e : model_refusal m ≡ 0) where
   loose_kept k = kept_renumbered own m n h e k ∙ records_own (rules_of m) (take k (full_of m))
 
 -- so is the report: lent the same memory for findings, and work that is long enough for both, the check answers the same and leaves the same bytes
-pub loose_report : (m n : Model) (f f' w w' g' v v' : List ℕ) (r s : Result Totals Refusal) → LooseApart m n → model_refusal m ≡ 0
+pub loose_report : (m n : Model) (f f' w w' g' v v' : List ℕ) (r s : Answer Totals) → LooseApart m n → model_refusal m ≡ 0
     → work_needed m ≤ length w → work_needed n ≤ length v → Checking m f f' w w' r → Checking n f g' v v' s → (s ≡ r) × (g' ≡ f')
 loose_report m n f f' w w' g' v v' r s h e lw lv c d =
     let p = report_renumbered own m n f f' w w' f g' v v' r s h e refl lw lv c d in

@@ -5,7 +5,7 @@ use mathlib.Core.List.{List, ◌++◌, map, Memᴰ}
 use borrow.Author.Tests.{le-ltb}
 use lib.ListN.{length, take, drop, length-map}
 use Rattle.laws.specs.Lists.{each}
-use Rattle.laws.specs.Refusals.{answer, filled}
+use Rattle.laws.specs.Refusals.{Answer, answer, filled}
 use Rattle.geometry.specs.Coordinates.{node_count}
 use Rattle.mesh.specs.Model.{Model, cells_of}
 use Rattle.mesh.specs.Acceptance.{model_refusal, work_needed}
@@ -16,10 +16,7 @@ use Rattle.findings.specs.Findings.{Finding, bowtie, overfull, partly, repeated}
 use Rattle.findings.specs.Rules.{rules_of, full_of}
 use Rattle.findings.specs.Records.{fields_of, centre_in, record_bytes, record_of, kept_of, kept_bytes}
 use Rattle.findings.specs.Check.{totals_of, check_refusal, Checking}
-use Rattle.std.specs.Prelude.{Result}
-use Rattle.refusals.specs.declared.Refusal.{Refusal}
 use Rattle.findings.specs.declared.Totals.{Totals}
-use Rattle.refusals.proofs.Told.{told_same}
 use Rattle.findings.proofs.Moved.{check_refusal_lem}
 use Rattle.renumber.specs.Renumbering.{Used, Renumbering, renamed, renamed_fields, record_by}
 use Rattle.renumber.proofs.Alike.{Alike, empty, link, length_alike, take_alike}
@@ -102,7 +99,7 @@ passes m work e h = check_refusal_lem m _ (accepts m e) ∙ rw (le-ltb (length w
 
 -- "the report is the same with nodes renamed": with work long enough for both and as much room for findings, the check answers the same,
 -- and the lent bytes begin with the same records, their nodes renamed
-pub report_renumbered : (ρ : ℕ → ℕ) (m n : Model) (f f' w w' g g' v v' : List ℕ) (r s : Result Totals Refusal) → Renumbering ρ m n → model_refusal m ≡ 0
+pub report_renumbered : (ρ : ℕ → ℕ) (m n : Model) (f f' w w' g g' v v' : List ℕ) (r s : Answer Totals) → Renumbering ρ m n → model_refusal m ≡ 0
     → length f ≡ length g → work_needed m ≤ length w → work_needed n ≤ length v → Checking m f f' w w' r → Checking n g g' v v' s
     → (s ≡ r)
     × (f' ≡ each (record_of (rules_of m)) (take (totals_of m (length f)).kept (full_of m))
@@ -116,7 +113,7 @@ report_renumbered ρ m n f f' w w' g g' v v' r s h e lf lw lv c d =
     let t : totals_of n (length g) ≡ totals_of m (length f) = totals_renumbered ρ m n h e (length g) ∙ ap (totals_of m) (sym lf) in
     let k : kept_bytes (rules_of n) (totals_of n (length g)).kept (full_of n) ≡ each (record_by ρ (rules_of m)) (take (totals_of m (length f)).kept (full_of m)) =
     kept_renumbered ρ m n h e (totals_of n (length g)).kept ∙ ap (λ (x : Totals). each (record_by ρ (rules_of m)) (take x.kept (full_of m))) t in (
-      told_same s r (d.answered ∙ (λ i. answer (pn i) (t i)) ∙ (λ i. answer (sym pm i) (totals_of m (length f))) ∙ sym c.answered),
+      d.answered ∙ (λ i. answer (pn i) (t i)) ∙ (λ i. answer (sym pm i) (totals_of m (length f))) ∙ sym c.answered,
       c.memory.findings_are ∙ ap (λ (x : ℕ). filled x (kept_bytes (rules_of m) (totals_of m (length f)).kept (full_of m)) f) pm,
       d.memory.findings_are ∙ (λ i. filled (pn i) (k i) g),
     )
