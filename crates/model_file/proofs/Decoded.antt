@@ -36,7 +36,7 @@ last_cons r (q ∷ rs) h = refl
 -- ---- a cell's words, cut into records
 
 -- what stands first is a full record, or all of the cell
-abbrev Cut : List ℕ → List ℕ → Type 0
+abbrev pub Cut : List ℕ → List ℕ → Type 0
 Cut ws here = (length ws ≡ 14) ⊎ (here ≡ [])
 
 -- what stands first, and what follows it
@@ -54,7 +54,7 @@ cut_length ws here (inl e) = inl e
 cut_length ws here (inr e) = inr (ap length e)
 
 -- a cell is its C and the records of the rest
-cell_join : (k : ℕ) (ws here : List ℕ) → length ws ≤ 14 → Cut ws here → cell_records (cell_with k (ws ++ here)) ≡ cell_record k ws ∷ more_records ((length here + 13) / 14) here
+pub cell_join : (k : ℕ) (ws here : List ℕ) → length ws ≤ 14 → Cut ws here → cell_records (cell_with k (ws ++ here)) ≡ cell_record k ws ∷ more_records ((length here + 13) / 14) here
 cell_join k ws here h c =
     let l = length-append ws here in
     let n : (length (ws ++ here) - 1) / 14 ≡ (length here + 13) / 14 = go l (cut_length ws here c) in
@@ -65,7 +65,7 @@ cell_join k ws here h c =
     go l (inr e) = omega arith
 
 -- words left are a K and the records of the rest
-more_join : (ws here : List ℕ) → 1 ≤ length ws → length ws ≤ 14 → Cut ws here → more_records ((length (ws ++ here) + 13) / 14) (ws ++ here) ≡ more_record ws ∷ more_records ((length here + 13) / 14) here
+pub more_join : (ws here : List ℕ) → 1 ≤ length ws → length ws ≤ 14 → Cut ws here → more_records ((length (ws ++ here) + 13) / 14) (ws ++ here) ≡ more_record ws ∷ more_records ((length here + 13) / 14) here
 more_join ws here g h c =
     let n = go (length-append ws here) (cut_length ws here c) in
     rw n (ap₂ (λ (a : List ℕ) (b : List (List ℕ)). more_record a ∷ b) (cut_take ws here h c) (ap (more_records ((length here + 13) / 14)) (cut_drop ws here h c)))

@@ -14,6 +14,17 @@ pub enum Letter {
     Last = 84,
 }
 
+impl Letter {
+    ghost use Rattle.std.specs.Prelude.{◌≡◌};
+    ghost use Rattle.model_file.specs.Letters.{letter_byte};
+
+    pub fn byte(self) -> u8
+        ensures { result ≡ letter_byte self }
+    {
+        self as u8
+    }
+}
+
 impl TryFrom<u8> for Letter {
     type Error = Refusal;
 

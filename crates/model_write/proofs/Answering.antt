@@ -1,17 +1,17 @@
 -- What writing answers, from what its passes leave.
 use Prim.Native.Nat.{ℕ, ◌+◌, ◌*◌, ◌/◌, ◌≤◌, ◌<◌}
-use mathlib.Core.Path.{◌≡◌, refl, sym, ap, ◌∙◌, subst}
+use mathlib.Core.Path.{◌≡◌, refl, sym, ap, ◌∙◌}
 use mathlib.Core.Logic.{◌≢◌}
-use mathlib.Core.Bool.{Bool, true, cond}
+use mathlib.Core.Bool.{Bool, cond}
 use mathlib.Core.List.{List, [], ◌∷◌, ◌++◌, append-nil}
 use native.Mathlib.Nat.{zero-add}
 use native.Mathlib.Omega.{arith}
-use lib.Dec.{T, ltb}
-use lib.ListN.{length, get_or, drop, length-append}
+use lib.Dec.{ltb}
+use lib.ListN.{length, drop, length-append}
 use lib.Seq.{sets, sets-eq}
-use lib.Ieee.{Float, nan, binary64, fits}
+use lib.Ieee.{Float}
 use borrow.Author.Tests.{lt-ltb, le-ltb, ne_eqb}
-use Rattle.laws.specs.Refusals.{refused, done, answer, filled}
+use Rattle.laws.specs.Refusals.{filled}
 use Rattle.laws.proofs.ListLaws.{each_append}
 use Rattle.laws.proofs.Stores.{sets_append}
 use Rattle.mesh.proofs.Accepts.{numbers_model}
@@ -19,15 +19,17 @@ use Rattle.laws.proofs.Tables.{refusal_first, refusal_second}
 use Rattle.mesh.specs.Model.{Model, cells_of}
 use Rattle.mesh.specs.Acceptance.{model_table, model_refusal}
 use Rattle.model_file.specs.Records.{last_record}
-use Rattle.model_file.specs.File.{node_records, records_of, encode}
-use Rattle.model_file.specs.Steps.{join, cells}
-use Rattle.model_file.specs.Held.{Fits, Held}
+use Rattle.laws.specs.Lists.{each}
+use Rattle.model_file.specs.File.{node_records, cell_records, records_of, encode}
+use Rattle.model_file.specs.Steps.{join}
+use Rattle.model_file.specs.Held.{Held}
 use Rattle.model_file.specs.Writing.{Writing, write_refusal}
-use Rattle.model_file.specs.declared.WriteAnswer.TheVariants.{Refused, Written}
-use Rattle.model_file.proofs.Numbers.{all_known}
+use Rattle.std.specs.Prelude.{Ok, Err}
+use Rattle.refusals.specs.Told.{number}
+use Rattle.refusals.specs.declared.Refusal.{Refusal}
+use Rattle.refusals.proofs.Told.{number-positive, ok_told, err_told}
 use Rattle.model_file.proofs.Accepting.{Accepted}
 use Rattle.model_file.proofs.Chop.{length_join, nodes_whole, cells_whole, cells_few}
-use Rattle.model_write.specs.Steps.{Cells}
 
 -- so many nodes
 pub nodes_count : (cs : List Float) → length (node_records cs) ≡ length cs / 3
@@ -36,14 +38,10 @@ nodes_count (x ∷ []) = refl
 nodes_count (x ∷ y ∷ []) = refl
 nodes_count (x ∷ y ∷ z ∷ cs) = let i = nodes_count cs in omega arith
 
-module _ (m : Model) (ok : Accepted m) where
-  -- the cells of an accepted model fit together
-  pub cells_of_lem : Cells m.kinds m.ends m.words
-  cells_of_lem = record { equal = ok.shape.equal; order = ok.shape.order; few = ok.shape.cells; few_words = ok.shape.words }
-
-  -- its records are few
-  pub few_records : length m.coords / 3 + length (cells 0 m.kinds m.ends m.words) + 1 ≤ 131072
-  few_records = omega (arith, cells_few 0 m.kinds m.ends m.words, ok.few, ok.shape.cells, ok.shape.words)
+-- an accepted model's records are few
+pub few_records : (m : Model) → Accepted m → length m.coords / 3 + length (each cell_records (cells_of m)) + 1 ≤ 131072
+unfolding cells_of
+few_records m ok = omega (arith, cells_few 0 m.kinds m.ends m.words, ok.few, ok.shape.cells, ok.shape.words)
 
 module _ (m : Model) where
   -- bytes of the nodes
@@ -51,22 +49,23 @@ module _ (m : Model) where
   nodes_long = length_join (node_records m.coords) (nodes_whole m.coords) ∙ ap (λ (x : ℕ). 32 * x) (nodes_count m.coords)
 
   -- bytes of the cells
-  cells_long : length (join (cells 0 m.kinds m.ends m.words)) ≡ 32 * length (cells 0 m.kinds m.ends m.words)
-  cells_long = length_join (cells 0 m.kinds m.ends m.words) (cells_whole 0 m.kinds m.ends m.words)
+  cells_long : length (join (each cell_records (cells_of m))) ≡ 32 * length (each cell_records (cells_of m))
+  unfolding cells_of
+  cells_long = length_join (each cell_records (cells_of m)) (cells_whole 0 m.kinds m.ends m.words)
 
   -- the bytes: nodes, cells, T
-  parts : encode m ≡ join (node_records m.coords) ++ (join (cells 0 m.kinds m.ends m.words) ++ last_record m.flags m.cap m.tolerance)
-  unfolding encode records_of cells_of
+  parts : encode m ≡ join (node_records m.coords) ++ (join (each cell_records (cells_of m)) ++ last_record m.flags m.cap m.tolerance)
+  unfolding encode records_of
   parts =
       let t = last_record m.flags m.cap m.tolerance in
-      let c = cells 0 m.kinds m.ends m.words in
+      let c = each cell_records (cells_of m) in
       each_append (λ (q : List ℕ). q) (node_records m.coords) (c ++ (t ∷ [])) ∙ ap (λ (x : List ℕ). join (node_records m.coords) ++ x) (each_append (λ (q : List ℕ). q) c (t ∷ []) ∙ ap (λ (x : List ℕ). join c ++ x) (append-nil t))
 
   -- how many bytes
-  pub encode_long : length (encode m) ≡ 32 * (length m.coords / 3 + length (cells 0 m.kinds m.ends m.words) + 1)
+  pub encode_long : length (encode m) ≡ 32 * (length m.coords / 3 + length (each cell_records (cells_of m)) + 1)
   encode_long =
       let t = last_record m.flags m.cap m.tolerance in
-      let c = cells 0 m.kinds m.ends m.words in
+      let c = each cell_records (cells_of m) in
       let p = ap length parts in
       let q = length-append (join (node_records m.coords)) (join c ++ t) in
       let r = length-append (join c) t in
@@ -74,24 +73,20 @@ module _ (m : Model) where
 
   -- the three passes, one behind the other
   pub three_passes : (out l1 l2 l3 : List ℕ) → l1 ≡ sets out 0 (join (node_records m.coords))
-      → l2 ≡ sets l1 (32 * (length m.coords / 3)) (join (cells 0 m.kinds m.ends m.words))
-      → l3 ≡ sets l2 (32 * (length m.coords / 3 + length (cells 0 m.kinds m.ends m.words))) (last_record m.flags m.cap m.tolerance)
+      → l2 ≡ sets l1 (32 * (length m.coords / 3)) (join (each cell_records (cells_of m)))
+      → l3 ≡ sets l2 (32 * (length m.coords / 3 + length (each cell_records (cells_of m)))) (last_record m.flags m.cap m.tolerance)
       → l3 ≡ sets out 0 (encode m)
   three_passes out l1 l2 l3 e1 e2 e3 =
       let t = last_record m.flags m.cap m.tolerance in
       let n = join (node_records m.coords) in
-      let c = join (cells 0 m.kinds m.ends m.words) in
+      let c = join (each cell_records (cells_of m)) in
       let a : 32 * (length m.coords / 3) ≡ 0 + length n = omega (arith, nodes_long) in
-      let b : 32 * (length m.coords / 3 + length (cells 0 m.kinds m.ends m.words)) ≡ 0 + length n + length c = omega (arith, nodes_long, cells_long) in
+      let b : 32 * (length m.coords / 3 + length (each cell_records (cells_of m))) ≡ 0 + length n + length c = omega (arith, nodes_long, cells_long) in
       e3
       ∙ (λ i. sets ((e2 ∙ (λ j. sets (e1 j) (a j) c)) i) (b i) t)
       ∙ sym (ap (sets out 0) parts ∙ sets_append out 0 n (c ++ t) ∙ sets_append (sets out 0 n) (0 + length n) c t)
 
 -- ---- the answer
-
--- a model's values fit, from what the types of its lists and numbers say
-pub held_by : (m : Model) → ((i : ℕ) → Fits (get_or m.coords i nan)) → fits binary64 m.tolerance ≡ true → m.cap < 65536 → Held m
-held_by m c t k = record { coords = all_known Fits nan m.coords c; tolerance = subst T (sym t) tt; cap = k }
 
 module _ (m : Model) (out : List ℕ) where
   -- 5 to 10 come first
@@ -108,20 +103,21 @@ module _ (m : Model) (out : List ℕ) where
   refused_room z h = then_four z ∙ ap (λ (b : Bool). cond b 4 0) (lt-ltb (length out) (length (encode m)) h)
 
   -- a refusal's number, and nothing written
-  pub writing_refused : Held m → (n : ℕ) → n ≢ 0 → write_refusal m out ≡ n → Writing m out out (Refused n)
-  writing_refused held n z e =
+  pub writing_refused : Held m → (e : Refusal) → write_refusal m out ≡ number e → Writing m out out (Err e)
+  writing_refused held e h =
+      let z : number e ≢ 0 = λ z. omega (arith, number-positive e) in
       record {
-        answered = sym (ap (λ (k : ℕ). answer k (length (encode m))) e ∙ ap (λ (b : Bool). cond b (done (length (encode m))) (refused n)) (ne_eqb n 0 z));
-        out_is = sym (ap (λ (k : ℕ). filled k (encode m) out) e ∙ ap (λ (b : Bool). cond b (encode m ++ drop (length (encode m)) out) out) (ne_eqb n 0 z));
+        answered = err_told {A = ℕ} {B = ℕ} (λ a. a) e (write_refusal m out) (length (encode m)) (sym h);
+        out_is = sym (ap (λ (k : ℕ). filled k (encode m) out) h ∙ ap (λ (b : Bool). cond b (encode m ++ drop (length (encode m)) out) out) (ne_eqb (number e) 0 z));
         held = held;
       }
 
   -- the bytes in front, the rest as it was
-  pub writing_done : Held m → (out' : List ℕ) (n : ℕ) → model_refusal m ≡ 0 → n ≡ length (encode m) → length (encode m) ≤ length out → out' ≡ sets out 0 (encode m) → Writing m out out' (Written n)
+  pub writing_done : Held m → (out' : List ℕ) (n : ℕ) → model_refusal m ≡ 0 → n ≡ length (encode m) → length (encode m) ≤ length out → out' ≡ sets out 0 (encode m) → Writing m out out' (Ok n)
   writing_done held out' n z q h w =
       let e : write_refusal m out ≡ 0 = then_four z ∙ ap (λ (b : Bool). cond b 4 0) (le-ltb (length out) (length (encode m)) h) in
       record {
-        answered = ap done q ∙ sym (ap (λ (k : ℕ). answer k (length (encode m))) e);
+        answered = ok_told {A = ℕ} {B = ℕ} (λ a. a) n (write_refusal m out) (length (encode m)) e q;
         out_is = w ∙ sets-eq (encode m) out 0 (omega arith) ∙ ap (λ (k : ℕ). encode m ++ drop k out) (zero-add (length (encode m))) ∙ sym (ap (λ (k : ℕ). filled k (encode m) out) e);
         held = held;
       }

@@ -1,79 +1,21 @@
--- The lengths of a PHED's rings put run by run, and how many words the rings of cells have.
-use Prim.Native.Nat.{ℕ, suc, ◌+◌, ◌-◌, ◌*◌, ◌≤◌}
-use mathlib.Core.Path.{◌≡◌, refl, ap, ◌∙◌, subst}
+-- How many words the rings of cells have.
+use Prim.Native.Nat.{ℕ, suc, ◌+◌, ◌*◌, ◌≤◌}
+use mathlib.Core.Path.{◌≡◌, refl, ap}
 use mathlib.Core.Logic.{◌⊎◌, inl, inr}
 use mathlib.Core.Bool.{Bool, true, false}
-use mathlib.Core.List.{List, [], ◌∷◌, ◌++◌, map, map-append}
+use mathlib.Core.List.{List, [], ◌∷◌}
 use native.Mathlib.Omega.{arith}
 use borrow.Author.Tests.{eqb-true, eqb-false}
 use lib.Dec.{leb, eqb}
-use lib.ListN.{length, take, drop, length-append, length-drop, length-map, take-append-drop, drop_of_length-le}
-use lib.Seq.{length-take-le}
-use Rattle.laws.specs.Lists.{only_if, each, keep}
-use Rattle.laws.proofs.ListLaws.{map-only_if}
+use lib.ListN.{length, length-append}
+use Rattle.laws.specs.Lists.{each, keep}
 use Rattle.laws.proofs.Tests.{tested}
-use Rattle.mesh.specs.Model.{cells_from}
-use Rattle.mesh.specs.Rings.{separator, onto, runs, phed_rings, rings_of}
-use Rattle.mesh.specs.Steps.{lead, ring_total, cell_with, WellCell, WellCells}
+use Rattle.mesh.specs.Model.{Raw}
+use Rattle.mesh.specs.Rings.{separator, onto, runs, rings_of}
+use Rattle.mesh.specs.Steps.{ring_total, cell_with, WellCell, WellCells}
 use Rattle.mesh.proofs.ByKind.{phed_is}
 use Rattle.mesh.proofs.CellTallies.{total_append}
-use Rattle.faces.specs.Listing.{Noted}
-use Rattle.faces.proofs.Noting.{Noting, noting_start, noting_next, noting_end}
-use Rattle.faces.proofs.Polyhedra.{runs_next}
 use Rattle.faces.proofs.Bounds.{fixed_total}
-
--- ---- a PHED
-
--- the lengths put before place i, with those that are left from there, are all
-pub record Runs (ws work₀ : List ℕ) (at : ℕ) (work : List ℕ) (k i : ℕ) : Type 0 where
-  pub noting : Noting work₀ at (map length (phed_rings ws)) work k (map length (phed_rings (drop i ws)))
-  pub within : i ≤ length ws + 1
-
--- at place 0 all runs are left
-pub runs_start : (ws work : List ℕ) (at : ℕ) → Runs ws work at work at 0
-runs_start ws work at = record { noting = noting_start work at (map length (phed_rings ws)); within = omega arith }
-
-module _ (ws work₀ : List ℕ) (at : ℕ) (work : List ℕ) (k i : ℕ) (p : Runs ws work₀ at work k i) where
-  module _ (e : ℕ) (is : e ≡ i + lead (drop i ws)) (end : e ≤ length ws) where
-    -- the length of the next run, if it is kept, and those behind it
-    lengths_next : map length (phed_rings (drop i ws)) ≡ only_if (leb 3 (e - i)) ((e - i) ∷ []) ++ map length (phed_rings (drop (e + 1) ws))
-    lengths_next =
-        let n = e - i in
-        let size : length (take n (drop i ws)) ≡ n = length-take-le n (drop i ws) (omega (arith, length-drop i ws)) in
-        ap (λ (l : List (List ℕ)). map length l) (runs_next ws i e n is refl (leb 3 n) refl)
-        ∙ map-append length (only_if (leb 3 n) (take n (drop i ws) ∷ [])) (phed_rings (drop (e + 1) ws))
-        ∙ ap (λ (l : List ℕ). l ++ map length (phed_rings (drop (e + 1) ws))) (map-only_if length (leb 3 n) (take n (drop i ws) ∷ []) ∙ ap (λ (j : ℕ). only_if (leb 3 n) (j ∷ [])) size)
-
-    -- there is room for it
-    pub run_room : at + length (phed_rings ws) ≤ length work₀ → k + length (only_if (leb 3 (e - i)) ((e - i) ∷ [])) ≤ length work
-    run_room h =
-        omega (
-          arith,
-          p.noting.count,
-          p.noting.same,
-          length-map (phed_rings ws) length,
-          ap length lengths_next,
-          length-append (only_if (leb 3 (e - i)) ((e - i) ∷ [])) (map length (phed_rings (drop (e + 1) ws))),
-        )
-
-    -- one run more
-    pub runs_noted : (work' : List ℕ) (k' : ℕ) → Noted work work' k k' (only_if (leb 3 (e - i)) ((e - i) ∷ [])) → Runs ws work₀ at work' k' (e + 1)
-    runs_noted work' k' q =
-        record {
-          noting =
-              noting_next work₀ at (map length (phed_rings ws)) work k (only_if (leb 3 (e - i)) ((e - i) ∷ [])) (map length (phed_rings (drop (e + 1) ws))) work' k'
-              (subst (λ (l : List ℕ). Noting work₀ at (map length (phed_rings ws)) work k l) lengths_next p.noting)
-              q;
-          within = omega arith;
-        }
-
-  -- no run is left
-  pub runs_end : length ws ≤ i → Noted work₀ work at k (map length (phed_rings ws))
-  runs_end h =
-      noting_end work₀ at (map length (phed_rings ws)) work k
-      (subst (λ (v : List ℕ). Noting work₀ at (map length (phed_rings ws)) work k (map length (phed_rings v))) (drop_of_length-le ws h) p.noting)
-
--- ---- how many words rings have
 
 -- rings that are kept have at most the words of all
 keep_total : (p : List ℕ → Bool) (rs : List (List ℕ)) → ring_total (keep p rs) ≤ ring_total rs
@@ -107,17 +49,13 @@ rings_small k ws w = go (tested (eqb k 4))
     go (inr a) = omega (arith, fixed_total k ws w (eqb-false k 4 a))
 
 -- and so have the rings of cells
-pub cells_small : (at : ℕ) (ks es ws : List ℕ) → WellCells (cells_from at ks es ws) → ring_total (each rings_of (cells_from at ks es ws)) ≤ 24 * length ks + length ws
-cells_small at [] es ws w = omega arith
-cells_small at (k ∷ ks) [] ws w = omega arith
-cells_small at (k ∷ ks) (e ∷ es) ws w =
-    let here = take (e - at) ws in
-    let later = drop (e - at) ws in
+pub cells_small : (cs : List Raw) → WellCells cs → ring_total (each rings_of cs) ≤ 24 * length cs + length (each (λ c. c.words) cs)
+cells_small [] w = omega arith
+cells_small (c ∷ cs) w =
     omega (
       arith,
-      total_append (rings_of (cell_with k here)) (each rings_of (cells_from e ks es later)),
-      rings_small k here w.0,
-      cells_small e ks es later w.1,
-      length-append here later,
-      ap length (take-append-drop (e - at) ws),
+      total_append (rings_of c) (each rings_of cs),
+      rings_small c.kind c.words w.0,
+      cells_small cs w.1,
+      length-append c.words (each (λ (x : Raw). x.words) cs),
     )

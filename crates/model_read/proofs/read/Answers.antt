@@ -14,7 +14,7 @@ use Rattle.model_read.proofs.read.Goals as goal
 
 pub returns-then-length_off : goal.returns-then-length_off
 returns-then-length_off c =
-    let each_byte : All Byte c.args.bytes.now = all_known Byte 0 c.args.bytes.now (λ i. (c.shared_slice_known-1.given i).fits) in
+    let each_byte : All Byte c.args.bytes.now = all_known Byte 0 c.args.bytes.now (λ i. (c.type_inv.bytes i).fits) in
     let a = c.args in
     reading_refused a.bytes.now a.coords.now a.kinds.now a.ends.now a.words.now each_byte FileLength
     (refused-length a.bytes.now a.coords.now a.kinds.now a.ends.now a.words.now (sym c.length_off.ensures ∙ c.if-length_off.true))
@@ -24,7 +24,7 @@ judge_all-requires c = let w = length_whole c.args.bytes.now (sym c.length_off.e
 
 pub returns-in_err-p : goal.returns-in_err-p
 returns-in_err-p c =
-    let each_byte : All Byte c.args.bytes.now = all_known Byte 0 c.args.bytes.now (λ i. (c.shared_slice_known-1.given i).fits) in
+    let each_byte : All Byte c.args.bytes.now = all_known Byte 0 c.args.bytes.now (λ i. (c.type_inv.bytes i).fits) in
     let right_length : length_off (length c.args.bytes.now) ≡ false = sym c.length_off.ensures ∙ c.if-length_off.false in
     let a = c.args in
     let p = err_from_is_err_and c.from_residual.result c.from_residual.ensures.1 in
@@ -35,7 +35,7 @@ returns-in_err-p c =
 
 pub returns-then-room_off : goal.returns-then-room_off
 returns-then-room_off c =
-    let each_byte : All Byte c.args.bytes.now = all_known Byte 0 c.args.bytes.now (λ i. (c.shared_slice_known-1.given i).fits) in
+    let each_byte : All Byte c.args.bytes.now = all_known Byte 0 c.args.bytes.now (λ i. (c.type_inv.bytes i).fits) in
     let right_length : length_off (length c.args.bytes.now) ≡ false = sym c.length_off.ensures ∙ c.if-length_off.false in
     let a = c.args in
     reading_refused a.bytes.now a.coords.now a.kinds.now a.ends.now a.words.now each_byte Room
@@ -52,7 +52,7 @@ found_in-requires c = let w = length_whole c.args.bytes.now (sym c.length_off.en
 
 pub returns : goal.returns
 returns c =
-    let each_byte : All Byte c.args.bytes.now = all_known Byte 0 c.args.bytes.now (λ i. (c.shared_slice_known-1.given i).fits) in
+    let each_byte : All Byte c.args.bytes.now = all_known Byte 0 c.args.bytes.now (λ i. (c.type_inv.bytes i).fits) in
     let right_length : length_off (length c.args.bytes.now) ≡ false = sym c.length_off.ensures ∙ c.if-length_off.false in
     let a = c.args in
     let s = a.bytes.now in

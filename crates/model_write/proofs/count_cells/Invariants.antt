@@ -1,13 +1,12 @@
-use Prim.Native.Nat.{◌+◌, ◌-◌, ◌≤◌}
-use mathlib.Core.Bool.{false}
+use Prim.Native.Nat.{◌+◌}
 use mathlib.Core.Path.{◌≡◌}
-use lib.ListN.{length, drop}
-use Rattle.mesh.specs.Acceptance.{ends_off}
-use Rattle.model_file.specs.Steps.{cells}
+use lib.ListN.{length}
+use Rattle.laws.specs.Lists.{each}
+use Rattle.mesh.specs.Lent.{lent}
+use Rattle.mesh.specs.Model.{cells_of}
+use Rattle.mesh.specs.CellsRest.{cells_rest}
+use Rattle.model_file.specs.File.{cell_records}
 use Rattle.model_write.proofs.count_cells.Given as goal
 
-abbrev pub invariant-loop-i : goal.invariant-loop-i
-invariant-loop-i l = (l.i ≤ length l.kinds) × (ends_off l.from (drop l.i l.ends) (length l.words) ≡ false) × (l.sum + length (cells l.from (drop l.i l.kinds) (drop l.i l.ends) (drop l.from l.words)) ≡ length (cells 0 l.kinds l.ends l.words))
-
-abbrev pub decreases-loop-i : goal.decreases-loop-i
-decreases-loop-i l = length l.kinds - l.i
+abbrev pub invariant-loop-cell : goal.invariant-loop-cell
+invariant-loop-cell l = l.sum + length (each cell_records (cells_rest l.cell-iterator)) ≡ length (each cell_records (cells_of (lent l.model.model)))

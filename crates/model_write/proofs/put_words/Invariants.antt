@@ -1,9 +1,8 @@
-use Prim.Native.Nat.{◌-◌}
-use Rattle.model_write.proofs.Putting.{Wording}
+use mathlib.Core.Path.{◌≡◌}
+use lib.ListN.{take}
+use lib.Seq.{sets}
+use Rattle.model_file.specs.Records.{word_bytes}
 use Rattle.model_write.proofs.put_words.Given as goal
 
-abbrev pub invariant-loop-j : goal.invariant-loop-j
-invariant-loop-j l = Wording l.initial.r l.words 4 l.from l.n l.r l.j
-
-abbrev pub decreases-loop-j : goal.decreases-loop-j
-decreases-loop-j l = l.n - l.j
+abbrev pub invariant-loop-i : goal.invariant-loop-i
+invariant-loop-i l = l.r ≡ sets l.initial.r 4 (word_bytes (take l.i l.words))

@@ -1,33 +1,32 @@
-use mathlib.Core.Path.{◌≡◌, refl, sym, ◌∙◌}
-use Rattle.mesh.specs.Acceptance.{model_refusal, shape_off}
-use Rattle.mesh.specs.Model.{Model, model_of, cells_of}
+use mathlib.Core.Path.{sym, ◌∙◌, subst}
+use native.Mathlib.Omega.{arith}
+use Rattle.std.proofs.lemmas.Result.{err_from_is_err_and}
+use Rattle.refusals.proofs.Told.{number-positive, told_ok, told_err}
+use Rattle.mesh.specs.Lent.{lent}
+use Rattle.mesh.specs.Model.{Model}
+use Rattle.mesh.specs.declared.accepted.Accepted.{Accepted}
 use Rattle.model_file.specs.Held.{Held}
-use Rattle.model_write.proofs.Answering.{held_by, refused_model, writing_refused}
+use Rattle.model_file.specs.Writing.{Writing}
+use Rattle.model_write.proofs.Answering.{refused_model, writing_refused}
 use Rattle.model_write.proofs.write.Goals as goal
 
-pub accept-t-requires : goal.accept-t-requires
-accept-t-requires c = tt
-
-pub returns-then-no-ne0 : goal.returns-then-no-ne0
-unfolding model_refusal shape_off cells_of
-returns-then-no-ne0 c =
-    let model : Model = model_of c.args.coords.now c.args.kinds.now c.args.ends.now c.args.words.now c.args.tol c.args.checks.0 c.args.cap in
-    let held : Held model = held_by model c.shared_slice_known-1.given c.well_formed.1.1.1.1.0.1 c.ranges.cap.fits in
-    let no_cap : model_refusal (model_of c.args.coords.now c.args.kinds.now c.args.ends.now c.args.words.now c.args.tol c.args.checks.0 0) ≡ model_refusal model = refl in
-    let m = model in
+pub returns-in_err-accepted : goal.returns-in_err-accepted
+returns-in_err-accepted c =
+    let m = lent c.args.model.now in
     let o = c.args.out.now in
-    let e = c.accept-t.ensures.refusal ∙ no_cap in
-    writing_refused m o held _ c.if-no-ne0.true (refused_model m o (λ z. c.if-no-ne0.true (e ∙ z)) ∙ sym e)
+    let h = c.held.ensures in
+    let p = err_from_is_err_and c.from_residual.result c.from_residual.ensures.1 in
+    let e = c.in_err-accepted.field-0.0 in
+    let n = told_err {A = Accepted} {B = Model} (λ a. lent a.model) e _ m c.in_err-accepted.ensures in
+    rw (p.1, p.2) (writing_refused m o (record { coords = h.0; tolerance = h.1; cap = h.2 }) e (refused_model m o (λ z. omega (arith, number-positive e, n, z)) ∙ sym n))
 
 pub write_accepted-requires : goal.write_accepted-requires
-unfolding model_refusal shape_off cells_of
 write_accepted-requires c =
-    let model : Model = model_of c.args.coords.now c.args.kinds.now c.args.ends.now c.args.words.now c.args.tol c.args.checks.0 c.args.cap in
-    let no_cap : model_refusal (model_of c.args.coords.now c.args.kinds.now c.args.ends.now c.args.words.now c.args.tol c.args.checks.0 0) ≡ model_refusal model = refl in
-    sym no_cap ∙ sym c.accept-t.ensures.refusal ∙ c.if-no-ne0.false
-
-pub shape_of-out : goal.shape_of-out
-shape_of-out c = c.write_accepted.auto.out
+    let h = c.held.ensures in
+    let z = told_ok {A = Accepted} {B = Model} (λ a. lent a.model) c.in_ok-accepted.accepted _ _ c.in_ok-accepted.ensures in
+    subst Held (sym z.1) (record { coords = h.0; tolerance = h.1; cap = h.2 })
 
 pub returns : goal.returns
-returns c = c.write_accepted.ensures
+returns c =
+    let z = told_ok {A = Accepted} {B = Model} (λ a. lent a.model) c.in_ok-accepted.accepted _ _ c.in_ok-accepted.ensures in
+    subst (λ (m : Model). Writing m c.args.out.now c.write_accepted.new.out c.write_accepted.result) z.1 c.write_accepted.ensures

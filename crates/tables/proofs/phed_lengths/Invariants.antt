@@ -1,10 +1,13 @@
-use Prim.Native.Nat.{◌-◌}
+use Prim.Native.Nat.{◌≤◌}
+use mathlib.Core.List.{map}
 use lib.ListN.{length}
-use Rattle.tables.proofs.Lengths.{Runs}
+use Rattle.mesh.specs.Rings.{phed_rings}
+use Rattle.mesh.specs.Steps.{ring_total}
+use Rattle.mesh.specs.PhedRest.{phed_rest}
+use Rattle.rings.proofs.Putting.{Putting}
 use Rattle.tables.proofs.phed_lengths.Given as goal
 
-abbrev pub invariant-loop-i : goal.invariant-loop-i
-invariant-loop-i l = Runs l.words l.initial.work l.at l.work l.k l.i
-
-abbrev pub decreases-loop-i : goal.decreases-loop-i
-decreases-loop-i l = length l.words - l.i
+abbrev pub invariant-loop-ring : goal.invariant-loop-ring
+invariant-loop-ring l =
+    Putting l.initial.work l.work l.at l.k (map length (phed_rings l.words)) (map length (phed_rest l.ring-iterator))
+    × (ring_total (phed_rest l.ring-iterator) ≤ length l.words)

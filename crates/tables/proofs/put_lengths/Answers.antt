@@ -1,61 +1,9 @@
-use Prim.Native.Nat.{◌≤◌}
-use lib.ListN.{length}
-use Rattle.faces.proofs.Walking.{next_end}
-use Rattle.mesh.specs.Model.{cells_from}
-use Rattle.tables.proofs.Passing.{lengths_of, passing_start, lengths_asks, lengths_next, lengths_end}
-use native.Mathlib.Omega.{arith}
+use Rattle.mesh.specs.CellsRest.{cell_raw, cells_rest}
+use Rattle.rings.proofs.Putting.{putting_next}
+use Rattle.tables.proofs.Passing.{lengths_next}
 use Rattle.tables.proofs.put_lengths.Goals as goal
 
-pub loop-i-init : goal.loop-i-init
-loop-i-init c =
-    let a = c.args in
-    passing_start a.kinds.now a.ends.now a.words.now a.work.now a.at (lengths_of (cells_from 0 a.kinds.now a.ends.now a.words.now)) c.requires.0
-
-pub offset_bounds-words-from : goal.offset_bounds-words-from
-offset_bounds-words-from c =
-    let ordered : (c.loop-i.from ≤ c.wide-e.result) × (c.wide-e.result ≤ length c.args.words.now) = let a = c.args in
-    let l = c.loop-i in
-    next_end a.kinds.now a.ends.now a.words.now l.from l.i l.invariant.walked c.requires.0 c.loop-i-test.true _ c.wide-e.ensures.0 in
-    omega (arith, ordered.0, ordered.1)
-
-pub slice_bounds-cell_lengths-count : goal.slice_bounds-cell_lengths-count
-slice_bounds-cell_lengths-count c =
-    let ordered : (c.loop-i.from ≤ c.wide-e.result) × (c.wide-e.result ≤ length c.args.words.now) = let a = c.args in
-    let l = c.loop-i in
-    next_end a.kinds.now a.ends.now a.words.now l.from l.i l.invariant.walked c.requires.0 c.loop-i-test.true _ c.wide-e.ensures.0 in
-    omega (arith, ordered.0, ordered.1)
-
-pub slice_bounds-cell_lengths-start : goal.slice_bounds-cell_lengths-start
-slice_bounds-cell_lengths-start c =
-    let ordered : (c.loop-i.from ≤ c.wide-e.result) × (c.wide-e.result ≤ length c.args.words.now) = let a = c.args in
-    let l = c.loop-i in
-    next_end a.kinds.now a.ends.now a.words.now l.from l.i l.invariant.walked c.requires.0 c.loop-i-test.true _ c.wide-e.ensures.0 in
-    omega (arith, ordered.0, ordered.1)
-
-pub slice_bounds-cell_lengths-end : goal.slice_bounds-cell_lengths-end
-slice_bounds-cell_lengths-end c =
-    let ordered : (c.loop-i.from ≤ c.wide-e.result) × (c.wide-e.result ≤ length c.args.words.now) = let a = c.args in
-    let l = c.loop-i in
-    next_end a.kinds.now a.ends.now a.words.now l.from l.i l.invariant.walked c.requires.0 c.loop-i-test.true _ c.wide-e.ensures.0 in
-    omega (arith, ordered.0, ordered.1)
-
-pub cell_lengths-k-requires : goal.cell_lengths-k-requires
-cell_lengths-k-requires c =
-    let a = c.args in
-    let l = c.loop-i in
-    lengths_asks a.kinds.now a.ends.now a.words.now a.work.now a.at l.work l.k l.from l.i l.invariant c.requires.0 c.loop-i-test.true _ c.wide-e.ensures.0 c.requires.1
-
-pub loop-i-preserved : goal.loop-i-preserved
-loop-i-preserved c =
-    let a = c.args in
-    let l = c.loop-i in
-    lengths_next a.kinds.now a.ends.now a.words.now a.work.now a.at l.work l.k l.from l.i l.invariant c.requires.0 c.loop-i-test.true _ c.wide-e.ensures.0 _ _ c.cell_lengths-k.ensures
-
-pub shape_of-work : goal.shape_of-work
-shape_of-work c = c.loop-i.invariant.noting.same
-
-pub returns : goal.returns
-returns c =
-    let a = c.args in
-    let l = c.loop-i in
-    lengths_end a.kinds.now a.ends.now a.words.now a.work.now a.at l.work l.k l.from l.i l.invariant c.requires.0 (omega arith)
+pub loop-cell-preserved : goal.loop-cell-preserved
+loop-cell-preserved c =
+    let is = lengths_next (cell_raw c.in-Some.cell) (cells_rest c.next.new.self) _ c.in-Some.ensures.steps in
+    putting_next c.loop-cell.invariant _ _ is _ _ c.cell_lengths-k.ensures

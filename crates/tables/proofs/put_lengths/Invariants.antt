@@ -1,12 +1,9 @@
-use Prim.Native.Nat.{◌-◌}
-use lib.ListN.{length}
-use Rattle.mesh.proofs.CellTallies.{left}
-use Rattle.mesh.specs.Model.{cells_from}
-use Rattle.tables.proofs.Passing.{lengths_of, Passing}
+use Rattle.mesh.specs.Lent.{lent}
+use Rattle.mesh.specs.Model.{cells_of}
+use Rattle.mesh.specs.CellsRest.{cells_rest}
+use Rattle.rings.proofs.Putting.{Putting}
+use Rattle.tables.proofs.Passing.{lengths_of}
 use Rattle.tables.proofs.put_lengths.Given as goal
 
-abbrev pub invariant-loop-i : goal.invariant-loop-i
-invariant-loop-i l = Passing l.kinds l.ends l.words l.initial.work l.at (lengths_of (cells_from 0 l.kinds l.ends l.words)) l.work l.k (lengths_of (left l.kinds l.ends l.words l.from l.i)) l.from l.i
-
-abbrev pub decreases-loop-i : goal.decreases-loop-i
-decreases-loop-i l = length l.kinds - l.i
+abbrev pub invariant-loop-cell : goal.invariant-loop-cell
+invariant-loop-cell l = Putting l.initial.work l.work l.at l.k (lengths_of (cells_of (lent l.model.model))) (lengths_of (cells_rest l.cell-iterator))

@@ -1,65 +1,24 @@
-use Prim.Native.Nat.{◌≤◌}
-use lib.ListN.{length}
-use Rattle.faces.proofs.Walking.{next_end}
-use Rattle.mesh.specs.Model.{cells_from}
-use Rattle.tables.specs.Owners.{owners_from}
-use Rattle.tables.proofs.Passing.{passing_start, owners_asks, owners_next, owners_end}
+use Prim.Native.Nat.{◌+◌, ◌≤◌}
 use native.Mathlib.Omega.{arith}
+use lib.ListN.{length, replicate, length-replicate}
+use Rattle.mesh.specs.Lent.{lent}
+use Rattle.mesh.specs.Model.{cells_of}
+use Rattle.mesh.specs.CellsRest.{cell_raw, cells_rest}
+use Rattle.rings.proofs.Putting.{putting_room, putting_next}
+use Rattle.tables.proofs.Passing.{owners_length, owners_next}
 use Rattle.tables.proofs.put_owners.Goals as goal
 
-pub loop-i-init : goal.loop-i-init
-loop-i-init c =
-    let a = c.args in
-    passing_start a.kinds.now a.ends.now a.words.now a.work.now a.at (owners_from 0 (cells_from 0 a.kinds.now a.ends.now a.words.now)) c.requires.0
+pub put_copies-k-requires : goal.put_copies-k-requires
+put_copies-k-requires c =
+    let s = c.in-Some.ensures.steps in
+    let l = c.loop-number in
+    let n = c.tally.result.faces in
+    let is = owners_next c.in-Some.number _ _ n (cell_raw c.in-Some.cell) (cells_rest c.next.new.self.iter) _ s.0 s.1 s.2 c.tally.ensures.faces.0 in
+    let h : l.k + length (replicate n c.in-Some.number) ≤ length l.work = putting_room l.invariant _ _ is (omega (arith, owners_length 0 (cells_of (lent c.args.model.now.model)), c.requires)) l.auto.work in
+    omega (arith, h, length-replicate n c.in-Some.number)
 
-pub offset_bounds-words-from : goal.offset_bounds-words-from
-offset_bounds-words-from c =
-    let ordered : (c.loop-i.from ≤ c.wide-e.result) × (c.wide-e.result ≤ length c.args.words.now) = let a = c.args in
-    let l = c.loop-i in
-    next_end a.kinds.now a.ends.now a.words.now l.from l.i l.invariant.walked c.requires.0 c.loop-i-test.true _ c.wide-e.ensures.0 in
-    omega (arith, ordered.0, ordered.1)
-
-pub slice_bounds-put_owner-count : goal.slice_bounds-put_owner-count
-slice_bounds-put_owner-count c =
-    let ordered : (c.loop-i.from ≤ c.wide-e.result) × (c.wide-e.result ≤ length c.args.words.now) = let a = c.args in
-    let l = c.loop-i in
-    next_end a.kinds.now a.ends.now a.words.now l.from l.i l.invariant.walked c.requires.0 c.loop-i-test.true _ c.wide-e.ensures.0 in
-    omega (arith, ordered.0, ordered.1)
-
-pub slice_bounds-put_owner-start : goal.slice_bounds-put_owner-start
-slice_bounds-put_owner-start c =
-    let ordered : (c.loop-i.from ≤ c.wide-e.result) × (c.wide-e.result ≤ length c.args.words.now) = let a = c.args in
-    let l = c.loop-i in
-    next_end a.kinds.now a.ends.now a.words.now l.from l.i l.invariant.walked c.requires.0 c.loop-i-test.true _ c.wide-e.ensures.0 in
-    omega (arith, ordered.0, ordered.1)
-
-pub slice_bounds-put_owner-end : goal.slice_bounds-put_owner-end
-slice_bounds-put_owner-end c =
-    let ordered : (c.loop-i.from ≤ c.wide-e.result) × (c.wide-e.result ≤ length c.args.words.now) = let a = c.args in
-    let l = c.loop-i in
-    next_end a.kinds.now a.ends.now a.words.now l.from l.i l.invariant.walked c.requires.0 c.loop-i-test.true _ c.wide-e.ensures.0 in
-    omega (arith, ordered.0, ordered.1)
-
-pub narrow-requires : goal.narrow-requires
-narrow-requires c = omega (arith, c.requires.0.few, c.loop-i-test.true)
-
-pub put_owner-k-requires : goal.put_owner-k-requires
-put_owner-k-requires c =
-    let a = c.args in
-    let l = c.loop-i in
-    owners_asks a.kinds.now a.ends.now a.words.now a.work.now a.at l.work l.k l.from l.i l.invariant c.requires.0 c.loop-i-test.true _ c.wide-e.ensures.0 c.requires.1
-
-pub loop-i-preserved : goal.loop-i-preserved
-loop-i-preserved c =
-    let a = c.args in
-    let l = c.loop-i in
-    owners_next a.kinds.now a.ends.now a.words.now a.work.now a.at l.work l.k l.from l.i l.invariant c.requires.0 c.loop-i-test.true _ c.wide-e.ensures.0 _ _ _ c.narrow.ensures c.put_owner-k.ensures
-
-pub shape_of-work : goal.shape_of-work
-shape_of-work c = c.loop-i.invariant.noting.same
-
-pub returns : goal.returns
-returns c =
-    let a = c.args in
-    let l = c.loop-i in
-    owners_end a.kinds.now a.ends.now a.words.now a.work.now a.at l.work l.k l.from l.i l.invariant c.requires.0 (omega arith)
+pub loop-number-preserved : goal.loop-number-preserved
+loop-number-preserved c =
+    let s = c.in-Some.ensures.steps in
+    let is = owners_next c.in-Some.number _ _ c.tally.result.faces (cell_raw c.in-Some.cell) (cells_rest c.next.new.self.iter) _ s.0 s.1 s.2 c.tally.ensures.faces.0 in
+    putting_next c.loop-number.invariant _ _ is _ _ c.put_copies-k.ensures

@@ -1,13 +1,10 @@
-use Prim.Native.Nat.{◌-◌}
-use lib.ListN.{length}
-use Rattle.mesh.proofs.CellTallies.{left}
-use Rattle.mesh.specs.Model.{cells_from}
+use Rattle.mesh.specs.Lent.{lent}
+use Rattle.mesh.specs.Model.{cells_of}
+use Rattle.mesh.specs.CellsRest.{cells_rest}
+use Rattle.rings.proofs.Putting.{Putting}
 use Rattle.tables.specs.Owners.{owners_from}
-use Rattle.tables.proofs.Passing.{Passing}
 use Rattle.tables.proofs.put_owners.Given as goal
 
-abbrev pub invariant-loop-i : goal.invariant-loop-i
-invariant-loop-i l = Passing l.kinds l.ends l.words l.initial.work l.at (owners_from 0 (cells_from 0 l.kinds l.ends l.words)) l.work l.k (owners_from l.i (left l.kinds l.ends l.words l.from l.i)) l.from l.i
-
-abbrev pub decreases-loop-i : goal.decreases-loop-i
-decreases-loop-i l = length l.kinds - l.i
+abbrev pub invariant-loop-number : goal.invariant-loop-number
+invariant-loop-number l =
+    Putting l.initial.work l.work l.at l.k (owners_from 0 (cells_of (lent l.model.model))) (owners_from l.number-iterator.count (cells_rest l.number-iterator.iter))

@@ -1,2 +1,0 @@
--- Writing a model file: what its steps need.
-pub mod Steps
