@@ -18,8 +18,7 @@ use Rattle.layout.specs.Tables.{Faced}
 use Rattle.layout.specs.Shown.{Shows}
 use Rattle.shown.proofs.Candidates.{way_shown}
 use Rattle.full_list.specs.declared.Choice.{Choice}
-use Rattle.full_list.specs.Ways.{taken, goes_by_nodes}
-use Rattle.full_list.specs.Found.{sought_in}
+use Rattle.full_list.specs.Ways.{taken, goes_by_nodes, sought_in}
 
 -- the way
 pub way_is : (m : Model) (l : Layout) (t : List ℕ) → Faced l t → Shows m l t → (choice : Choice) (b : Bool) → b ≡ is_by_nodes l.at t → taken choice b ≡ goes_by_nodes choice m

@@ -1,9 +1,9 @@
 -- For internal contracts: the findings of a model, kind by kind.
-use Rattle.std.specs.Prelude.{ℕ, ◌/◌, cond, List, [], ◌++◌, ◌≡◌, length, take}
+use Rattle.std.specs.Prelude.{ℕ, ◌/◌, List, [], ◌++◌, ◌≡◌, length, take}
 use Rattle.std.proofs.lemmas.List.Edits.{sets}
 use Rattle.laws.specs.Lists.{only_if, each, walk, up_from}
-use Rattle.mesh.specs.Model.{Model, contains, TOPOLOGY, BUTTERFLY}
-use Rattle.mesh.specs.Acceptance.{model_refusal, faces_in}
+use Rattle.mesh.specs.Model.{Model, contains, BUTTERFLY}
+use Rattle.mesh.specs.Acceptance.{model_refusal}
 use Rattle.findings.specs.Findings.{Finding, kind2, kind3, kind4}
 use Rattle.findings.specs.Rules.{rules_of, cells_in, full_of}
 use Rattle.findings.specs.Records.{record_of}
@@ -20,10 +20,6 @@ topology_of m = walk (kind2 (rules_of m)) [] (cells_in m) ++ (walk (kind3 (rules
 -- kind 1, where the flags ask for it, as the tables tell it
 unfoldable pub butterflies_in : ℕ → Layout → List ℕ → List Finding
 butterflies_in flags l t = only_if (contains flags BUTTERFLY) (each (bow_cell l t) (up_from 0 l.at.cell_count))
-
--- how many faces of an accepted model are sought
-unfoldable pub sought_in : Model → ℕ
-sought_in m = cond (contains m.flags TOPOLOGY) (length (faces_in m)) 0
 
 -- kept as the records of m
 abbrev pub KeptBy : Model → List Finding → Sink → Sink → Type 0

@@ -9,8 +9,8 @@ ghost use Rattle.index.specs.Faces.{input};
 ghost use Rattle.seek.specs.Candidates.{Tallied};
 ghost use Rattle.layout.specs.Tables.{Faced};
 ghost use Rattle.all_cells.specs.Cells.{KeptEver};
-ghost use Rattle.full_list.specs.Ways.{taken, goes_by_nodes};
-ghost use Rattle.full_list.specs.Found.{Ready, topology_of, butterflies_in, KeptBy, FoundIn, sought_in};
+ghost use Rattle.full_list.specs.Ways.{taken, goes_by_nodes, sought_in};
+ghost use Rattle.full_list.specs.Found.{Ready, topology_of, butterflies_in, KeptBy, FoundIn};
 
 use mesh::{Accepted, Checks};
 use records::Sink;

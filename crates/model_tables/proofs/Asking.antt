@@ -42,8 +42,8 @@ each_in R F C rings rows firsts bows cells keys starts sets offsets n a b c d e 
 
 module _ (m : Model) (ok : model_refusal m ≡ 0) where
   -- the places: no sum wraps
-  pub asks_plan : (f r : ℕ) → Tallied m f r → (r < 2 ^ 32) × (f < 2 ^ 32) × (length m.kinds < 2 ^ 32) × (node_count m.coords < 2 ^ 32) × (length m.words < 2 ^ 32)
-  asks_plan f r t = let k = few m ok in (t.small, t.few, omega (arith, k.kinds), omega (arith, k.nodes), omega (arith, k.words))
+  pub asks_plan : (f r n : ℕ) → Tallied m f r → n ≡ node_count m.coords → (r < 2 ^ 32) × (f < 2 ^ 32) × (length m.kinds < 2 ^ 32) × (n < 2 ^ 32) × (length m.words < 2 ^ 32)
+  asks_plan f r n t e = let k = few m ok in (t.small, t.few, omega (arith, k.kinds), omega (arith, e, k.nodes), omega (arith, k.words))
 
   module _ (K : ℕ) (l : Layout) (s : Settled m.coords (cells m ok) (length m.words) K l) (w : List ℕ) (h : work_needed m ≤ length w) where
     abbrev cs : List Raw
@@ -79,8 +79,8 @@ module _ (m : Model) (ok : model_refusal m ≡ 0) where
     inside = record { bows = tables.3; keys = tables.4; offsets = below_index; pairs = scratch.1 }
 
     -- the rings
-    pub asks_rings : (l.rings + ring_total (rings_in m) ≤ length w) × (l.rows + (length (rings_in m) + 1) ≤ length w) × (l.firsts + (length (cells_of m) + 1) ≤ length w)
-    asks_rings = (tables.0, tables.1, tables.2)
+    pub asks_rings : (l.rings + ring_total (rings_in m) ≤ length w) × (l.rows + (length (rings_in m) + 1) ≤ length w) × (l.firsts + (length m.kinds + 1) ≤ length w)
+    asks_rings = (tables.0, tables.1, omega (arith, tables.2, kinds_are_lem m ok))
 
     -- the marks and the cells of faces
     pub asks_marks : RingTables m.coords m.tolerance (cells m ok) l w → Ringed l (take l.at.bows w) × (l.at.bows + l.at.cell_count ≤ length w) × (l.at.nodes ≡ node_count m.coords) × (l.at.cells + length (rings_in m) ≤ length w)

@@ -1,6 +1,6 @@
 -- The tables of an accepted model: cleared behind, under the final places, and built.
 use Prim.Native.Nat.{ℕ, ◌+◌, ◌*◌, ◌≤◌}
-use mathlib.Core.Path.{◌≡◌, refl, sym, ◌∙◌, subst}
+use mathlib.Core.Path.{◌≡◌, refl, sym, ap, ◌∙◌, subst}
 use mathlib.Core.List.{List, map}
 use native.Mathlib.Nat.{le_trans}
 use native.Mathlib.Omega.{arith}
@@ -34,9 +34,10 @@ use Rattle.layout.specs.Tables.{Spaced}
 use Rattle.layout.specs.ByCell.{bit}
 use Rattle.layout.specs.Shown.{Shows, Built}
 use Rattle.tables.specs.Owners.{owners_from}
+use Rattle.tables.proofs.Lengths.{cells_small}
 use Rattle.tables.proofs.Shown.{joined}
 use Rattle.model_tables.specs.Planned.{Planned}
-use Rattle.model_tables.proofs.Sizes.{sized_cells, sized_many, sets_total, cells_small}
+use Rattle.model_tables.proofs.Sizes.{sized_cells, sized_many, sets_total}
 use Rattle.model_tables.proofs.Reading.{holds_put, holds_before, holds_at, holds_long}
 use Rattle.model_tables.proofs.Contents.{meets, Settled, RingTables, FaceTables, Tabled, Cleared}
 use Rattle.model_tables.proofs.Ringing.{welds_held, first_at}
@@ -139,9 +140,10 @@ module _ (m : Model) (ok : model_refusal m ≡ 0) where
   counts_are f r t = (t.words ∙ words_are m, t.faces ∙ faces_are_lem m)
 
   -- the places are those of the model's tables
-  pub settled : (f r : ℕ) → Tallied m f r → (K : ℕ) (l : Layout) → Planned r f (length m.kinds) (node_count m.coords) M K l → Settled m.coords cells M K l
-  settled f r t K l p =
+  pub settled : (f r n : ℕ) → Tallied m f r → n ≡ node_count m.coords → (K : ℕ) (l : Layout) → Planned r f (length m.kinds) n M K l → Settled m.coords cells M K l
+  settled f r i t is K l placed =
       let e = counts_are f r t in
+      let p = subst (λ (j : ℕ). Planned r f (length m.kinds) j M K l) is placed in
       let n = node_count m.coords in
       record {
         well = well_cells cells (kept_model m ok).well;

@@ -1,6 +1,6 @@
 -- The rings of an accepted model's cells: each has 3 to 64 words, and each word is a node.
 use Prim.Native.Nat.{ℕ, zero, suc, ◌*◌, ◌≤◌, ◌<◌}
-use mathlib.Core.Path.{◌≡◌, refl, sym, ap, subst}
+use mathlib.Core.Path.{◌≡◌, refl, sym, subst}
 use mathlib.Core.Logic.{◌⊎◌, inl, inr}
 use mathlib.Core.Bool.{true, false}
 use mathlib.Core.List.{List, [], ◌∷◌, ◌++◌, map}
@@ -21,8 +21,6 @@ use Rattle.mesh.specs.Acceptance.{count_wrong}
 use Rattle.mesh.specs.Steps.{ring_total, too_long, cell_with, WellCell, WellCells}
 use Rattle.mesh.proofs.ByKind.{tet_is, hex_is, wedge_is, phed_is}
 use Rattle.mesh.proofs.CellKinds.{the_fourth}
-use Rattle.mesh.proofs.CellTallies.{total_append}
-use Rattle.mesh.proofs.RunTallies.{phed_few}
 
 -- ---- 3 to 64 words
 
@@ -135,23 +133,3 @@ keys_total (r ∷ rs) =
       length-append (sort leb r) (each (λ (l : List ℕ). l) (map (sort leb) rs)),
       length-append r (each (λ (l : List ℕ). l) rs),
     )
-
--- ---- how many words the rings of cells have
-
--- a cell's rings have at most so many words
-rings_small : (c : Raw) → WellCell c → ring_total (rings_of c) ≤ 24 + length c.words
-rings_small c w = go (tested (eqb c.kind 1)) (tested (eqb c.kind 2)) (tested (eqb c.kind 3))
-  where
-    go : (eqb c.kind 1 ≡ true) ⊎ (eqb c.kind 1 ≡ false) → (eqb c.kind 2 ≡ true) ⊎ (eqb c.kind 2 ≡ false) → (eqb c.kind 3 ≡ true) ⊎ (eqb c.kind 3 ≡ false) → ring_total (rings_of c) ≤ 24 + length c.words
-    go (inl a) y z = omega (arith, ap ring_total (tet_is c.kind c.words (eqb-true c.kind 1 a) w).1)
-    go (inr a) (inl b) z = omega (arith, ap ring_total (hex_is c.kind c.words (eqb-true c.kind 2 b) w).1)
-    go (inr a) (inr b) (inl d) = omega (arith, ap ring_total (wedge_is c.kind c.words (eqb-true c.kind 3 d) w).1)
-    go (inr a) (inr b) (inr d) =
-        let k = the_fourth c.kind w.kind (eqb-false c.kind 1 a) (eqb-false c.kind 2 b) (eqb-false c.kind 3 d) in
-        omega (arith, ap ring_total (phed_is c.kind c.words k), (phed_few c.words).1)
-
--- and so have the rings of cells
-pub cells_small : (cs : List Raw) → WellCells cs → ring_total (each rings_of cs) ≤ 24 * length cs + length (each (λ c. c.words) cs)
-cells_small [] w = omega arith
-cells_small (c ∷ cs) w =
-    omega (arith, total_append (rings_of c) (each rings_of cs), rings_small c w.0, cells_small cs w.1, length-append c.words (each (λ x. x.words) cs))

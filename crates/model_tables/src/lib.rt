@@ -128,7 +128,7 @@ fn put_weld(model: &Accepted, work: &mut [u32])
 fn put_rings(model: &Accepted, work: &mut [u32], l: Layout)
     requires rings_in_bounds { l.rings + ring_total (rings_in (lent model.now.model)) ≤ length work.old }
     requires rows_in_bounds { l.rows + (length (rings_in (lent model.now.model)) + 1) ≤ length work.old }
-    requires firsts_in_bounds { l.firsts + (length (cells_of (lent model.now.model)) + 1) ≤ length work.old }
+    requires firsts_in_bounds { l.firsts + (length model.now.model.kinds.now + 1) ≤ length work.old }
     ensures { work.new ≡ sets (sets (sets work.old l.rings (each (λ r. r) (rings_in (lent model.now.model)))) l.rows (starts_of 0 (rings_in (lent model.now.model)))) l.firsts (starts_of 0 (map rings_of (cells_of (lent model.now.model)))) }
 {
     rings::put_cells(model, work, l.rings);

@@ -1,16 +1,11 @@
 -- `full_list::find_topology` meets its contract.
 use mathlib.Core.Path.{◌≡◌, sym, ◌∙◌, subst}
-use lib.ListN.{length}
-use Rattle.mesh.specs.Model.{Model, model_of}
-use Rattle.mesh.specs.Acceptance.{faces_in}
+use Rattle.mesh.specs.Lent.{lent}
 use Rattle.index.specs.Faces.{input}
-use Rattle.seek.specs.Candidates.{Tallied}
 use Rattle.seek.proofs.Tallies.{tallied_as}
 use Rattle.layout.specs.Shown.{Shows}
 use Rattle.shown.proofs.Candidates.{faces_shown}
 use Rattle.all_cells.proofs.Passing.{still_input}
-use Rattle.full_list.specs.Ways.{goes_by_nodes}
-use Rattle.full_list.specs.Found.{Ready, topology_of, KeptBy}
 use Rattle.full_list.proofs.Shown.{overs_kept, pairs_kept, repeats_kept}
 use Rattle.full_list.proofs.Cells.{cells_in}
 use Rattle.full_list.proofs.Ways.{way_is}
@@ -18,19 +13,18 @@ use Rattle.full_list.proofs.Whole.{three_kept}
 use Rattle.full_list.proofs.find_topology.Goals as goal
 
 pub keep_repeats-requires-clause-nodes_value : goal.keep_repeats-requires-clause-nodes_value
-keep_repeats-requires-clause-nodes_value g c =
+keep_repeats-requires-clause-nodes_value c =
     let a = c.args in
-    let m : Model = model_of a.coords.now a.kinds.now a.ends.now a.words.now a.tol a.checks.0 0 in
-    let r : Ready m a.l a.work.now = subst (λ (m : Model). Ready m a.l a.work.now) (sym c.requires.0) c.requires.1.0 in
+    let m = lent a.model.now.model in
+    let r = c.requires.ready in
     (r.built.shows.nodes, cells_in m a.l (input a.l.at a.work.now) r.accepted r.built.shows)
 
 pub returns : goal.returns
-returns g c =
+returns c =
     let a = c.args in
     let l = a.l in
-    let m : Model = model_of a.coords.now a.kinds.now a.ends.now a.words.now a.tol a.checks.0 0 in
-    let is : m ≡ g.m = c.requires.0 in
-    let built = (subst (λ (m : Model). Ready m l a.work.now) (sym is) c.requires.1.0).built in
+    let m = lent a.model.now.model in
+    let built = c.requires.ready.built in
     let x = c.index_faces-s in
     let v = x.new.work in
     let y = c.keep_overs in
@@ -43,11 +37,10 @@ returns g c =
     let i = z.new.sink in
     let e = r.new.sink in
     let way = c.by_nodes-by_nodes.ensures ∙ way_is m l (input l.at a.work.now) built.tabled.faced built.shows a.choice x.result.by_nodes x.ensures.by_nodes_value in record {
-      kept_by = subst (λ (m : Model). KeptBy m (topology_of m) f e) is
-          (three_kept m f h i e
+      kept_by =
+          three_kept m f h i e
           (overs_kept m l (input l.at v) S1 f h y.ensures.kept_any)
           (pairs_kept m l (input l.at v) S1 h i z.ensures.kept)
-          (repeats_kept m l (input l.at z.new.work) S2 i e r.ensures.kept_any));
-      tallied = subst (λ (m : Model). Tallied (goes_by_nodes a.choice m) (length (faces_in m)) z.result) is
-          (tallied_as way (faces_shown m l (input l.at a.work.now) built.shows) z.ensures.tallied);
+          (repeats_kept m l (input l.at z.new.work) S2 i e r.ensures.kept_any);
+      tallied = tallied_as way (faces_shown m l (input l.at a.work.now) built.shows) z.ensures.tallied;
     }

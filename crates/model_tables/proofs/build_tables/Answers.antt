@@ -24,7 +24,7 @@ plan-l-requires c =
     let s = c.args.model.now in
     let m = lent s.model in
     let ok = s.accepted in
-    asks_plan m ok s.faces s.ring_words s.tallied
+    asks_plan m ok s.faces s.ring_words c.node_count-nodes.result s.tallied c.node_count-nodes.ensures
 
 pub put_weld-requires : goal.put_weld-requires
 put_weld-requires c =
@@ -37,7 +37,7 @@ put_rings-requires c =
     let m = lent s.model in
     let ok = s.accepted in
     let l = c.plan-l.result in
-    let z = settled m ok s.faces s.ring_words s.tallied 0 l c.plan-l.ensures in
+    let z = settled m ok s.faces s.ring_words c.node_count-nodes.result s.tallied c.node_count-nodes.ensures 0 l c.plan-l.ensures in
     let a = c.put_weld.new.work in
     let in_a = kept c.put_weld.auto.work c.requires in
     let asked = asks_rings m ok 0 l z a in_a in
@@ -49,7 +49,7 @@ put_marks-requires c =
     let m = lent s.model in
     let ok = s.accepted in
     let l = c.plan-l.result in
-    let z = settled m ok s.faces s.ring_words s.tallied 0 l c.plan-l.ensures in
+    let z = settled m ok s.faces s.ring_words c.node_count-nodes.result s.tallied c.node_count-nodes.ensures 0 l c.plan-l.ensures in
     let a = c.put_weld.new.work in
     let in_a = kept c.put_weld.auto.work c.requires in
     let b = c.put_rings.new.work in
@@ -66,7 +66,7 @@ put_nodes-k-requires c =
     let m = lent s.model in
     let ok = s.accepted in
     let l = c.plan-l.result in
-    let z = settled m ok s.faces s.ring_words s.tallied 0 l c.plan-l.ensures in
+    let z = settled m ok s.faces s.ring_words c.node_count-nodes.result s.tallied c.node_count-nodes.ensures 0 l c.plan-l.ensures in
     let a = c.put_weld.new.work in
     let in_a = kept c.put_weld.auto.work c.requires in
     let b = c.put_rings.new.work in
@@ -85,7 +85,7 @@ clear_scratch-requires c =
     let m = lent s.model in
     let ok = s.accepted in
     let l = c.plan-l.result in
-    let z = settled m ok s.faces s.ring_words s.tallied 0 l c.plan-l.ensures in
+    let z = settled m ok s.faces s.ring_words c.node_count-nodes.result s.tallied c.node_count-nodes.ensures 0 l c.plan-l.ensures in
     let in_a = kept c.put_weld.auto.work c.requires in
     let in_b = kept c.put_rings.auto.work in_a in
     let in_d = kept c.put_marks.auto.work in_b in
@@ -98,7 +98,7 @@ plan-requires c =
     let s = c.args.model.now in
     let m = lent s.model in
     let ok = s.accepted in
-    asks_plan m ok s.faces s.ring_words s.tallied
+    asks_plan m ok s.faces s.ring_words c.node_count-nodes.result s.tallied c.node_count-nodes.ensures
 
 -- ---- what is built
 
@@ -108,7 +108,7 @@ returns c =
     let m = lent s.model in
     let ok = s.accepted in
     let l = c.plan-l.result in
-    let z = settled m ok s.faces s.ring_words s.tallied 0 l c.plan-l.ensures in
+    let z = settled m ok s.faces s.ring_words c.node_count-nodes.result s.tallied c.node_count-nodes.ensures 0 l c.plan-l.ensures in
     let a = c.put_weld.new.work in
     let in_a = kept c.put_weld.auto.work c.requires in
     let b = c.put_rings.new.work in
@@ -126,7 +126,7 @@ returns c =
     let tabled = nodes_put m.coords m.tolerance (cells m ok) (length m.words) 0 l z d e (inside m ok 0 l z d in_d).offsets marked c.put_nodes-k.ensures.1 in
     let cleared = zeros_put m.coords m.tolerance (cells m ok) (length m.words) 0 l z e f (inside m ok 0 l z e in_e).pairs tabled c.clear_scratch.ensures in
     let K = c.put_nodes-k.result in
-    let q = settled m ok s.faces s.ring_words s.tallied K c.plan.result c.plan.ensures in
+    let q = settled m ok s.faces s.ring_words c.node_count-nodes.result s.tallied c.node_count-nodes.ensures K c.plan.result c.plan.ensures in
     let part = rings_part m.coords m.tolerance (cells m ok) (length m.words) 0 l z d l.at.bows (omega arith) marked.rings in
     let size = c.put_nodes-k.ensures.0 ∙ ap ring_total (sets_are m.coords m.tolerance (cells m ok) (length m.words) 0 l (take l.at.bows d) z part) in
     built m ok K c.plan.result q f in_f (placed_again m.coords m.tolerance (cells m ok) (length m.words) 0 l z K c.plan.result q f cleared) size

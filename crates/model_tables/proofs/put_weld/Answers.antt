@@ -2,6 +2,7 @@
 use Prim.Native.Nat.{ℕ, ◌+◌, ◌≤◌}
 use mathlib.Core.Path.{◌≡◌, sym, ◌∙◌, subst}
 use native.Mathlib.Omega.{arith}
+use lib.ListN.{length}
 use Rattle.laws.specs.Limits.{node_limit}
 use Rattle.laws.specs.Merging.{AllBelow, region}
 use Rattle.geometry.specs.Coordinates.{node_count}
@@ -34,5 +35,5 @@ returns c =
     let e = c.node_count-n.ensures in
     let fits : n + n + n ≤ length w = omega (arith, c.requires, e, c.weld_named.auto.work) in
     let fitting : 0 + n ≤ length w = omega (arith, fits) in
-    let front = copied w c.copy_within.new.work (n + n) n fits (c.copy_within.ensures.after ∙ Slice.copied w (n + n) n 0 fits fitting) in
-    subst (λ (k : ℕ). region 0 k c.copy_within.new.work ≡ welds_of m) e (front ∙ c.weld_named.ensures.0 ∙ ?)
+    let front = copied w c.copy_within.new.self (n + n) n fits (c.copy_within.ensures.after ∙ Slice.copied w (n + n) n 0 fits fitting) in
+    subst (λ (k : ℕ). region 0 k c.copy_within.new.self ≡ welds_of m) e (front ∙ c.weld_named.ensures.0 ∙ welds_words m h)
