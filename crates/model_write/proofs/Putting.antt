@@ -6,7 +6,7 @@ use native.Mathlib.Nat.{sub-zero}
 use native.Mathlib.Numerals.{add-one}
 use native.Mathlib.Omega.{arith}
 use lib.ListN.{length, get_or, take, drop, set, replicate, length-append, length-take, length-drop, length-replicate}
-use lib.Seq.{sets, sets-eq, take-suc, length-take-le, take-append_seam, drop-append-add}
+use lib.Seq.{sets, sets-eq, drop-drop, get_or-drop, take_all, take-add, take-suc, length-take-le, take-append_seam, drop-append-add}
 use lib.Ieee.{Float}
 use Rattle.laws.specs.Bytes.{bytes}
 use Rattle.laws.proofs.ListLaws.{each_append}
@@ -22,14 +22,38 @@ zeros_put n l new o h e =
     ap (λ (x : List ℕ). take o l ++ (x ++ drop (o + n - o) (drop o l))) (e ∙ ap (λ (x : ℕ). replicate x 0) k)
     ∙ lent_sets n l (replicate n 0) o (length-replicate n 0) h
 
--- one word more
-pub words_more : (l₀ l ws : List ℕ) (at i v : ℕ) → i < length ws → v ≡ narrow (get_or ws i 0) → l ≡ sets l₀ at (word_bytes (take i ws)) → sets l (at + 2 * i) (bytes 2 v) ≡ sets l₀ at (word_bytes (take (i + 1) ws))
-words_more l₀ l ws at i v h e w =
-    let n : length (word_bytes (take i ws)) ≡ 2 * i = length-word_bytes (take i ws) ∙ ap (λ (x : ℕ). 2 * x) (length-take-le i ws (omega arith)) in
-    (λ t. sets (w t) (at + sym n t) (bytes 2 (e t)))
-    ∙ sym (ap (λ (x : List ℕ). sets l₀ at (word_bytes x)) (ap (λ (x : ℕ). take x ws) (add-one i) ∙ take-suc ws i 0 h)
-    ∙ ap (sets l₀ at) (each_append (λ (x : ℕ). bytes 2 (narrow x)) (take i ws) (get_or ws i 0 ∷ []) ∙ ap (λ (x : List ℕ). word_bytes (take i ws) ++ x) (append-nil (bytes 2 (narrow (get_or ws i 0)))))
-    ∙ sets_append l₀ at (word_bytes (take i ws)) (bytes 2 (narrow (get_or ws i 0))))
+-- one word more of those from the j-th on
+pub words_more : (l₀ l ws : List ℕ) (j i v : ℕ) → j + i < length ws → v ≡ narrow (get_or ws (j + i) 0) → l ≡ sets l₀ (4 + 2 * j) (word_bytes (take i (drop j ws)))
+    → sets l (4 + 2 * (j + i)) (bytes 2 v) ≡ sets l₀ (4 + 2 * j) (word_bytes (take (i + 1) (drop j ws)))
+words_more l₀ l ws j i v h e w =
+    let rest = drop j ws in
+    let d = length-drop j ws in
+    let n : length (word_bytes (take i rest)) ≡ 2 * i = length-word_bytes (take i rest) ∙ ap (λ (x : ℕ). 2 * x) (length-take-le i rest (omega arith)) in
+    let p : 4 + 2 * (j + i) ≡ 4 + 2 * j + length (word_bytes (take i rest)) = omega arith in
+    let g : v ≡ narrow (get_or rest i 0) = e ∙ ap narrow (sym (get_or-drop j ws i 0)) in
+    (λ t. sets (w t) (p t) (bytes 2 (g t)))
+    ∙ sym (ap (λ (x : List ℕ). sets l₀ (4 + 2 * j) (word_bytes x)) (ap (λ (x : ℕ). take x rest) (add-one i) ∙ take-suc rest i 0 (omega arith))
+    ∙ ap (sets l₀ (4 + 2 * j)) (each_append (λ (x : ℕ). bytes 2 (narrow x)) (take i rest) (get_or rest i 0 ∷ []) ∙ ap (λ (x : List ℕ). word_bytes (take i rest) ++ x) (append-nil (bytes 2 (narrow (get_or rest i 0)))))
+    ∙ sets_append l₀ (4 + 2 * j) (word_bytes (take i rest)) (bytes 2 (narrow (get_or rest i 0))))
+
+-- words j to k put, then those to m
+pub words_on : (l ws : List ℕ) (j k m : ℕ) → j ≤ k → k ≤ m → m ≤ length ws
+    → sets (sets l (4 + 2 * j) (word_bytes (take (k - j) (drop j ws)))) (4 + 2 * k) (word_bytes (take (m - k) (drop k ws))) ≡ sets l (4 + 2 * j) (word_bytes (take (m - j) (drop j ws)))
+words_on l ws j k m h i b =
+    let rest = drop j ws in
+    let a : m - j ≡ k - j + (m - k) = omega arith in
+    let d : j + (k - j) ≡ k = omega arith in
+    let n : length (word_bytes (take (k - j) rest)) ≡ 2 * (k - j) = length-word_bytes (take (k - j) rest) ∙ ap (λ (x : ℕ). 2 * x) (length-take-le (k - j) rest (omega (arith, length-drop j ws))) in
+    let p : 4 + 2 * j + length (word_bytes (take (k - j) rest)) ≡ 4 + 2 * k = omega arith in
+    sym (ap (λ (x : ℕ). sets l (4 + 2 * j) (word_bytes (take x rest))) a
+    ∙ ap (λ (x : List ℕ). sets l (4 + 2 * j) (word_bytes x)) (take-add (k - j) (m - k) rest)
+    ∙ ap (sets l (4 + 2 * j)) (each_append (λ (x : ℕ). bytes 2 (narrow x)) (take (k - j) rest) (take (m - k) (drop (k - j) rest)))
+    ∙ sets_append l (4 + 2 * j) (word_bytes (take (k - j) rest)) (word_bytes (take (m - k) (drop (k - j) rest)))
+    ∙ ap₂ (λ (x : ℕ) (y : List ℕ). sets (sets l (4 + 2 * j) (word_bytes (take (k - j) rest))) x (word_bytes (take (m - k) y))) p (drop-drop (k - j) j ws ∙ ap (λ (x : ℕ). drop x ws) d))
+
+-- all words
+pub words_all : (l ws : List ℕ) (n : ℕ) → length ws ≤ n → sets l 4 (word_bytes (take n ws)) ≡ sets l 4 (word_bytes ws)
+words_all l ws n h = ap (λ (x : List ℕ). sets l 4 (word_bytes x)) (take_all n ws h)
 
 -- ---- a record's stores, one behind the other, write all of it
 

@@ -1,7 +1,7 @@
 // Writing a model file into lent bytes.
 #![tactic(auto)]
 
-ghost use Rattle.std.specs.Prelude.{◌≡◌, ◌+◌, ◌*◌, ◌-◌, ◌/◌, ◌%◌, ◌≤◌, ◌<◌, length};
+ghost use Rattle.std.specs.Prelude.{◌≡◌, ◌+◌, ◌*◌, ◌-◌, ◌/◌, ◌%◌, ◌≤◌, ◌<◌, length, take, drop};
 ghost use Rattle.std.proofs.lemmas.List.Edits.{sets};
 ghost use Rattle.laws.specs.Lists.{All, each};
 ghost use Rattle.mesh.specs.Model.{cells_of};
@@ -56,14 +56,44 @@ fn narrow_of(w: u32) -> u64
     w as u64
 }
 
-// Words, as two bytes each, from byte 4 on.
+// N words from the j-th on, as two bytes each, the first of all at byte 4.
+fn put_some<const N: usize>(r: &mut [u8], words: &[u32], j: usize)
+    requires { (j + N ≤ length words.now) × (4 + 2 * length words.now ≤ length r.old) }
+    ensures { r.new ≡ sets r.old (4 + 2 * j) (word_bytes (take N (drop j words.now))) }
+{
+    for i in 0..N {
+        floats::put_bytes(r, 4 + 2 * (j + i), 2, narrow_of(words[j + i]));
+    }
+}
+
+// N more behind j, where there are as many; how many are put then.
+fn put_next<const N: usize>(r: &mut [u8], words: &[u32], j: usize) -> usize
+    requires { (j ≤ length words.now) × (length words.now < j + 2 * N) × (4 + 2 * length words.now ≤ length r.old) }
+    ensures up { j ≤ result }
+    ensures inside { result ≤ length words.now }
+    ensures few { length words.now < result + N }
+    ensures put { r.new ≡ sets r.old (4 + 2 * j) (word_bytes (take (result - j) (drop j words.now))) }
+{
+    if words.len() - j < N {
+        return j;
+    }
+    put_some::<N>(r, words, j);
+    j + N
+}
+
+// All words of a record.
 fn put_words(r: &mut [u8], words: &[u32])
-    requires { 4 + 2 * length words.now ≤ length r.old }
+    requires { (length words.now ≤ 14) × (4 + 2 * length words.now ≤ length r.old) }
     ensures { r.new ≡ sets r.old 4 (word_bytes words.now) }
 {
-    for i in 0..words.len() {
-        floats::put_bytes(r, 4 + 2 * i, 2, narrow_of(words[i]));
+    if words.len() == 14 {
+        put_some::<14>(r, words, 0);
+        return;
     }
+    let i = put_next::<8>(r, words, 0);
+    let j = put_next::<4>(r, words, i);
+    let k = put_next::<2>(r, words, j);
+    put_next::<1>(r, words, k);
 }
 
 // C or K

@@ -1,0 +1,10 @@
+use mathlib.Core.Path.{◌∙◌}
+use native.Mathlib.Omega.{arith}
+use Rattle.model_write.proofs.Putting.{words_more}
+use Rattle.model_write.proofs.put_some.Goals as goal
+
+pub loop-i-preserved : goal.loop-i-preserved
+loop-i-preserved g c =
+    let a = c.args in
+    let l = c.loop-i in
+    c.put_bytes.ensures ∙ words_more a.r.now l.r a.words.now a.j l.i _ (omega arith) c.narrow_of.ensures l.invariant
