@@ -1,10 +1,9 @@
 -- The promise for every choice of the way.
 use Prim.Native.Nat.{ℕ}
-use mathlib.Core.Path.{◌≡◌, sym, ap, ◌∙◌, subst}
+use mathlib.Core.Path.{◌≡◌, sym}
 use mathlib.Core.List.{List}
-use lib.Dec.{eqb}
 use Rattle.std.specs.Prelude.{Ok, Err}
-use Rattle.laws.specs.Refusals.{refused, done}
+use Rattle.laws.specs.Refusals.{done}
 use Rattle.refusals.specs.declared.Refusal.{Refusal}
 use Rattle.refusals.specs.Told.{number}
 use Rattle.refusals.proofs.Told.{ok_told, err_told, number-positive}

@@ -33,12 +33,7 @@ pub fn check_by(
         return Err(Refusal::Work);
     }
     let room = (model.cap as usize).min(findings.len() / 64);
-    let found = full_list::find(
-        &m,
-        choice,
-        &mut work[..need],
-        &mut findings[..64 * room],
-    );
+    let found = full_list::find(&m, choice, &mut work[..need], &mut findings[..64 * room]);
     work[..need].fill(0);
     Ok(Checked {
         totals: Totals {
