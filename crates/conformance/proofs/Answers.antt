@@ -1,6 +1,6 @@
 -- The table of the check, row by row, and its promise.
 use Prim.Native.Nat.{ℕ, ◌*◌, ◌/◌, ◌≤◌, ◌<◌, min}
-use mathlib.Core.Path.{◌≡◌, refl, sym, ap, ap₂, ◌∙◌}
+use mathlib.Core.Path.{◌≡◌, sym, ap, ap₂, ◌∙◌}
 use mathlib.Core.Logic.{◌≢◌}
 use mathlib.Core.Bool.{Bool}
 use mathlib.Core.List.{List, [], ◌∷◌, ◌++◌, append_assoc}
@@ -10,19 +10,18 @@ use lib.Dec.{ltb}
 use lib.ListN.{length, take, drop, replicate, length-take}
 use Rattle.std.proofs.lemmas.List.{take-append-drop}
 use lib.Seq.{sets, length-take-le, drop-append-le}
-use lib.Ieee.{Float}
 use Rattle.laws.specs.Lists.{each}
-use Rattle.laws.specs.Refusals.{refusal}
+use Rattle.laws.specs.Refusals.{refused, done, refusal}
 use Rattle.laws.proofs.Stores.{sets_front, take_least}
 use Rattle.laws.proofs.Tables.{clear_append, refusal_first}
-use Rattle.mesh.specs.Model.{Model, model_of, cells_of}
-use Rattle.mesh.specs.Acceptance.{model_table, model_refusal, shape_off, work_needed, faces_in}
+use Rattle.mesh.specs.Model.{Model}
+use Rattle.mesh.specs.Acceptance.{model_table, model_refusal, work_needed}
 use Rattle.mesh.proofs.Accepts.{accepted_clear}
 use Rattle.findings.specs.Findings.{Finding}
-use Rattle.findings.specs.Rules.{rules_of, cells_in, full_of}
+use Rattle.findings.specs.Rules.{rules_of, full_of}
 use Rattle.findings.specs.Records.{record_of, kept_of, kept_bytes}
-use Rattle.findings.specs.Check.{Totals, totals_of, check_refusal, Checking}
-use Rattle.findings.specs.declared.CheckAnswer.TheVariants.{Refused, Report}
+use Rattle.findings.specs.declared.Totals.{Totals}
+use Rattle.findings.specs.Check.{totals_of, check_refusal, Checking}
 use Rattle.findings.proofs.Kept.{records_64, kept_64, kept_fits}
 use Rattle.full_list.specs.Found.{FoundIn}
 
@@ -46,7 +45,7 @@ module _ (m : Model) (work : List ℕ) where
   row_none ok h = behind ok ∙ rw (le-ltb (length work) (work_needed m) h)
 
   -- a refusal changes nothing
-  pub refused_so : (findings : List ℕ) (n : ℕ) → check_refusal m work ≡ n → n ≢ 0 → Checking m findings findings work work (Refused n)
+  pub refused_so : (findings : List ℕ) (n : ℕ) → check_refusal m work ≡ n → n ≢ 0 → Checking m findings findings work work (refused n)
   refused_so findings n e z =
       let q = ne_eqb n 0 z in
       record { answered = rw (e, q); memory = record { findings_are = rw (e, q); work_is = rw (e, q) } }
@@ -101,20 +100,5 @@ module _ (m : Model) (findings part work : List ℕ) (room total kept : ℕ) (ok
       ∙ sets_front findings (each (record_of (rules_of m)) (take (totals_of m (length findings)).kept (full_of m))) (omega (arith, kept_64 m (length findings), kept_fits m (length findings)))
 
   -- so a report is as promised
-  pub checked_so : (work' : List ℕ) → work' ≡ replicate (work_needed m) 0 ++ drop (length (replicate {A = ℕ} (work_needed m) 0)) work → Checking m findings (part ++ drop (64 * room) findings) work work' (Report total kept)
+  pub checked_so : (work' : List ℕ) → work' ≡ replicate (work_needed m) 0 ++ drop (length (replicate {A = ℕ} (work_needed m) 0)) work → Checking m findings (part ++ drop (64 * room) findings) work work' (done (record { total = total; kept = kept }))
   checked_so work' e = record { answered = rw (ok, totals_are); memory = record { findings_are = bytes_are ∙ rw ok; work_is = e ∙ rw ok } }
-
--- ---- the cap: acceptance, work and findings do not look at it
-
-module _ (coords : List Float) (kinds ends words : List ℕ) (tol : Float) (flags cap : ℕ) where
-  pub cap_refusal : model_refusal (model_of coords kinds ends words tol flags 0) ≡ model_refusal (model_of coords kinds ends words tol flags cap)
-  unfolding model_refusal shape_off cells_of
-  cap_refusal = refl
-
-  pub cap_work : work_needed (model_of coords kinds ends words tol flags 0) ≡ work_needed (model_of coords kinds ends words tol flags cap)
-  unfolding work_needed faces_in cells_of
-  cap_work = refl
-
-  pub cap_found : (f f' : List ℕ) (k : ℕ) → FoundIn (model_of coords kinds ends words tol flags 0) f f' k → FoundIn (model_of coords kinds ends words tol flags cap) f f' k
-  unfolding rules_of full_of cells_in cells_of
-  cap_found f f' k p = record { count = p.count; bytes = p.bytes }
