@@ -2,8 +2,8 @@
 ghost use Rattle.mesh.specs.Model.{model_of};
 ghost use Rattle.capi.specs.FaceRings.{FillExport, OwnersExport, LookupExport};
 
-use mesh::Counted;
-use ring_lists::RingsAnswer;
+use crate::answers;
+use mesh::{Checks, Model};
 
 // Fills the first words of both lists with all rings in face order, and says how many words that are.
 #[unsafe(no_mangle)]
@@ -21,20 +21,20 @@ pub extern "C" fn lenoshale_fill_ring_lists(
 ) -> u32
     ensures { FillExport (model_of coords.now kinds.now ends.now words.now tolerance flags 0) raw.old raw.new welded.old welded.new work.old work.new count.old count.new result }
 {
-    let checks = mesh::Checks(flags);
-    let a = ring_lists::fill_ring_lists(
-        coords, kinds, ends, words, tolerance, checks, raw, welded, work,
-    );
-    match a {
-        RingsAnswer::Refused(n) => n as u32,
-        RingsAnswer::Words(n) => {
-            *count = n;
-            0
-        }
-    }
+    let m = Model {
+        coords,
+        kinds,
+        ends,
+        words,
+        tolerance,
+        checks: Checks(flags),
+        cap: 0,
+    };
+    answers::tell(ring_lists::fill_ring_lists(&m, raw, welded, work), count)
 }
 
 // The cells that hold a face's sorted ring, as many as fit, and the whole count.
+#[tactic(auto, unfolding(mesh::specs::Lookup::owners_answer))]
 #[unsafe(no_mangle)]
 pub extern "C" fn lenoshale_face_owners(
     coords: &[f64],
@@ -49,15 +49,16 @@ pub extern "C" fn lenoshale_face_owners(
 ) -> u32
     ensures { OwnersExport (model_of coords.now kinds.now ends.now words.now tolerance flags 0) face owners.old owners.new count.old count.new result }
 {
-    let checks = mesh::Checks(flags);
-    let a = owners::face_owners(coords, kinds, ends, words, tolerance, checks, face, owners);
-    match a {
-        Counted::Refused(n) => n as u32,
-        Counted::Count(n) => {
-            *count = n;
-            0
-        }
-    }
+    let m = Model {
+        coords,
+        kinds,
+        ends,
+        words,
+        tolerance,
+        checks: Checks(flags),
+        cap: 0,
+    };
+    answers::tell(owners::face_owners(&m, face, owners), count)
 }
 
 // The ring of a face is the part of either list that begins at `start` and is `size` words long: C cannot be handed a slice.
@@ -77,15 +78,22 @@ pub extern "C" fn lenoshale_ring_lookup(
 ) -> u32
     ensures { LookupExport (model_of coords.now kinds.now ends.now words.now tolerance flags 0) raw.now welded.now face start.old start.new size.old size.new result }
 {
-    let checks = mesh::Checks(flags);
-    let n = faces::ring_refusal(
-        coords, kinds, ends, words, tolerance, checks, raw, welded, face,
-    );
-    if n != 0 {
-        return n as u32;
+    let model = Model {
+        coords,
+        kinds,
+        ends,
+        words,
+        tolerance,
+        checks: Checks(flags),
+        cap: 0,
+    };
+    match faces::judge_lookup(&model, raw, welded, face) {
+        Err(e) => e.number() as u32,
+        Ok(m) => {
+            let s = faces::find_ring(&m, face);
+            *start = s.start as u64;
+            *size = s.len as u64;
+            0
+        }
     }
-    let s = faces::find_ring(kinds, ends, words, face);
-    *start = s.start as u64;
-    *size = s.len as u64;
-    0
 }

@@ -7,8 +7,9 @@ ghost use Rattle.mesh.specs.Model.{model_of};
 ghost use Rattle.capi.specs.Version.{version};
 ghost use Rattle.capi.specs.Checks.{WorkExport, CheckExport};
 
-use findings::CheckAnswer;
+use mesh::{Checks, Model};
 
+mod answers; // what C is told of an answer
 mod model_files; // reading and writing a file
 mod face_rings; // ring lists, face owners, ring lookup
 mod nodes; // welding, area test, root
@@ -40,14 +41,22 @@ pub extern "C" fn lenoshale_work_needed(
 ) -> u32
     ensures { WorkExport (model_of coords.now kinds.now ends.now words.now tolerance flags 0) need.old need.new ring_words.old ring_words.new faces.old faces.new result }
 {
-    let t = mesh::accept(coords, kinds, ends, words, tolerance, mesh::Checks(flags));
-    if t.refusal != 0 {
-        return t.refusal as u32;
-    }
-    let n = mesh::work_needed(t, kinds.len(), coords.len() / 3, words.len());
-    *need = n as u64;
-    *ring_words = t.words as u64;
-    *faces = t.faces as u64;
+    let model = Model {
+        coords,
+        kinds,
+        ends,
+        words,
+        tolerance,
+        checks: Checks(flags),
+        cap: 0,
+    };
+    let m = match mesh::accept(&model) {
+        Err(e) => return e.number() as u32,
+        Ok(m) => m,
+    };
+    *need = m.work_needed() as u64;
+    *ring_words = m.ring_words as u64;
+    *faces = m.faces as u64;
     0
 }
 
@@ -68,16 +77,22 @@ pub extern "C" fn lenoshale_check(
 ) -> u32
     ensures { CheckExport (model_of coords.now kinds.now ends.now words.now tolerance flags cap) findings.old findings.new work.old work.new total.old total.new kept.old kept.new result }
 {
-    let checks = mesh::Checks(flags);
-    let checked = conformance::check(
-        coords, kinds, ends, words, tolerance, checks, cap, findings, work,
-    );
-    let a = checked.answer;
-    match a {
-        CheckAnswer::Refused(n) => n as u32,
-        CheckAnswer::Report(t, k) => {
-            *total = t;
-            *kept = k;
+    let checks = Checks(flags);
+    let m = Model {
+        coords,
+        kinds,
+        ends,
+        words,
+        tolerance,
+        checks,
+        cap,
+    };
+    match conformance::check(&m, findings, work) {
+        Err(e) => e.number() as u32,
+        Ok(c) => {
+            let t = c.totals;
+            *total = t.total;
+            *kept = t.kept;
             0
         }
     }

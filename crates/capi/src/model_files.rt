@@ -3,7 +3,7 @@ ghost use Rattle.mesh.specs.Model.{model_of};
 ghost use Rattle.model_file.specs.Reading.{found_of};
 ghost use Rattle.capi.specs.Files.{ReadExport, WriteExport};
 
-use model_file::{ReadAnswer, WriteAnswer};
+use mesh::{Checks, Model};
 
 // Reads a file: its lists, three coordinates a node, and what it says besides them.
 #[unsafe(no_mangle)]
@@ -22,10 +22,9 @@ pub extern "C" fn lenoshale_read(
 ) -> u32
     ensures { ReadExport bytes.now coords.old coords.new kinds.old kinds.new ends.old ends.new words.old words.new (found_of node_count.old cell_count.old word_count.old tolerance.old flags.old cap.old) (found_of node_count.new cell_count.new word_count.new tolerance.new flags.new cap.new) result }
 {
-    let a = model_read::read(bytes, coords, kinds, ends, words);
-    match a {
-        ReadAnswer::Refused(n) => n as u32,
-        ReadAnswer::Read(f) => {
+    match model_read::read(bytes, coords, kinds, ends, words) {
+        Err(e) => e.number() as u32,
+        Ok(f) => {
             *node_count = f.nodes as u64;
             *cell_count = f.cells as u64;
             *word_count = f.words as u64;
@@ -52,11 +51,18 @@ pub extern "C" fn lenoshale_write(
 ) -> u32
     ensures { WriteExport (model_of coords.now kinds.now ends.now words.now tolerance flags cap) out.old out.new size.old size.new result }
 {
-    let checks = mesh::Checks(flags);
-    let a = model_write::write(coords, kinds, ends, words, tolerance, checks, cap, out);
-    match a {
-        WriteAnswer::Refused(n) => n as u32,
-        WriteAnswer::Written(n) => {
+    let m = Model {
+        coords,
+        kinds,
+        ends,
+        words,
+        tolerance,
+        checks: Checks(flags),
+        cap,
+    };
+    match model_write::write(&m, out) {
+        Err(e) => e.number() as u32,
+        Ok(n) => {
             *size = n as u64;
             0
         }

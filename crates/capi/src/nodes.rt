@@ -4,9 +4,9 @@ ghost use Rattle.area.specs.AreaTest.{area_number};
 ghost use Rattle.mesh.specs.Model.{model_of};
 ghost use Rattle.capi.specs.Nodes.{WeldExport, AreaExport, RootExport};
 
-use area::{Area, AreaAnswer};
-use floats::Rooted;
-use welding::WeldAnswer;
+use crate::answers;
+use area::Area;
+use mesh::{Checks, Model};
 
 // Welds the nodes that cells name: the map gets the welded numbers of all nodes.
 #[unsafe(no_mangle)]
@@ -21,10 +21,18 @@ pub extern "C" fn lenoshale_weld(
 ) -> u32
     ensures { WeldExport (model_of coords.now kinds.now ends.now words.now tolerance 0 0) map.old map.new scratch.old scratch.new result }
 {
-    let a = welding::weld(coords, kinds, ends, words, tolerance, map, scratch);
-    match a {
-        WeldAnswer::Refused(n) => n as u32,
-        WeldAnswer::Filled => 0,
+    let m = Model {
+        coords,
+        kinds,
+        ends,
+        words,
+        tolerance,
+        checks: Checks(0),
+        cap: 0,
+    };
+    match welding::weld(&m, map, scratch) {
+        Err(e) => e.number() as u32,
+        Ok(()) => 0,
     }
 }
 
@@ -32,16 +40,11 @@ pub extern "C" fn lenoshale_weld(
 fn area_number(a: Area) -> u32
     ensures { result ≡ area_number a }
 {
-    match a {
-        Area::TooFew => 0,
-        Area::Together => 1,
-        Area::NoDirection => 2,
-        Area::Thin => 3,
-        Area::Spans => 4,
-    }
+    a as u32
 }
 
 // The area test on nodes.
+#[tactic(auto, unfolding(area::specs::AreaTest::area_answer))]
 #[unsafe(no_mangle)]
 pub extern "C" fn lenoshale_area_test(
     coords: &[f64],
@@ -51,27 +54,20 @@ pub extern "C" fn lenoshale_area_test(
 ) -> u32
     ensures { AreaExport coords.now nodes.now tolerance says.old says.new result }
 {
-    let a = area::area_test(coords, nodes, tolerance);
-    match a {
-        AreaAnswer::Refused(n) => n as u32,
-        AreaAnswer::Says(s) => {
-            *says = area_number(s);
+    match area::area_test(coords, nodes, tolerance) {
+        Err(e) => e.number() as u32,
+        Ok(a) => {
+            *says = area_number(a);
             0
         }
     }
 }
 
 // The root of x.
+#[tactic(auto, unfolding(floats::specs::RootAnswer::root_answer))]
 #[unsafe(no_mangle)]
 pub extern "C" fn lenoshale_root(x: f64, root: &mut f64) -> u32
     ensures { RootExport x root.old root.new result }
 {
-    let a = floats::root(x);
-    match a {
-        Rooted::Refused => 13,
-        Rooted::Value(v) => {
-            *root = v;
-            0
-        }
-    }
+    answers::tell(floats::root(x), root)
 }

@@ -1,5 +1,5 @@
 -- How many rings cells have, and how long these are.
-use Prim.Native.Nat.{ℕ, zero, suc, ◌≤◌, ◌<◌}
+use Prim.Native.Nat.{ℕ, zero, suc, ◌≤◌, ◌<◌, ◌+◌}
 use mathlib.Core.Path.{◌≡◌, refl, sym, subst}
 use mathlib.Core.Logic.{◌⊎◌, inl, inr, ◌≢◌}
 use mathlib.Core.Bool.{Bool, true, false}
@@ -15,6 +15,7 @@ use Rattle.mesh.specs.Rings.{at, tet_rings, hex_rings, wedge_rings, runs, phed_r
 use Rattle.mesh.specs.Acceptance.{count_wrong}
 use Rattle.mesh.specs.Steps.{ring_total, too_long, cell_with, WellCell}
 use Rattle.mesh.proofs.ByKind.{tet_is, hex_is, wedge_is, phed_is}
+use Rattle.mesh.proofs.RunTallies.{phed_few}
 use Rattle.mesh.proofs.CellKinds.{the_fourth}
 
 -- what holds of the rings of each kind holds of a cell's rings
@@ -65,3 +66,7 @@ ring_short k ws f w h = short_at (rings_of (cell_with k ws)) f (rings_short k ws
 -- the rings of a cell that is no PHED have at most 24 words
 pub fixed_total : (k : ℕ) (ws : List ℕ) → WellCell (cell_with k ws) → k ≢ 4 → ring_total (rings_of (cell_with k ws)) ≤ 24
 fixed_total k ws w z = by_kind (λ rs. ring_total rs ≤ 24) k ws w (omega arith) (omega arith) (omega arith) (λ e. absurd (z e))
+
+-- a cell has at most so many rings
+pub rings_few : (k : ℕ) (ws : List ℕ) → WellCell (cell_with k ws) → length (rings_of (cell_with k ws)) ≤ 6 + length ws
+rings_few k ws w = by_kind (λ rs. length rs ≤ 6 + length ws) k ws w (omega arith) (omega arith) (omega arith) (λ e. omega (arith, phed_few ws))

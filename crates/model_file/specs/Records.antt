@@ -116,23 +116,17 @@ stage l r = by_letter Nodes (cond (eqb (count r) words_most) Full Cells) (cond (
 -- only nodes stand before
 abbrev pub in_nodes : Stage → Bool
 in_nodes Nodes = true
-in_nodes Cells = false
-in_nodes Full = false
-in_nodes Done = false
+in_nodes _ = false
 
 -- a full record of a cell stands before
 abbrev pub after_full : Stage → Bool
-after_full Nodes = false
-after_full Cells = false
 after_full Full = true
-after_full Done = false
+after_full _ = false
 
 -- T stands before
 abbrev pub ended : Stage → Bool
-ended Nodes = false
-ended Cells = false
-ended Full = false
 ended Done = true
+ended _ = false
 
 -- 2: letter unknown or misplaced
 abbrev pub misplaced : Stage → Option Letter → Bool

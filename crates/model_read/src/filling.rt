@@ -119,7 +119,8 @@ fn fill_words(l: Letter, r: &[u8], words: &mut [u32], at: usize)
     }
 }
 
-// What a record behind the leading nodes adds to the lists.
+// What a record behind the leading nodes adds to the lists. They stay apart: of a struct that holds them each contract
+// would say, list by list, that it still holds the same borrow.
 fn fill_record(r: &[u8], kinds: &mut [u8], ends: &mut [u32], words: &mut [u32], p: Place) -> Place
     requires { Room r.now p (length kinds.old) (length ends.old) (length words.old) }
     ensures { Put r.now p result kinds.old kinds.new ends.old ends.new words.old words.new }

@@ -9,6 +9,8 @@ use crate::Place;
 use model_file::{Letter, Stage};
 use refusals::Refusal;
 
+// Three sizes, each one number that is read at once: as one function over N bytes, reading a file took 1.8 times the instructions.
+
 // Whether eight bytes are zero.
 fn zero_eight(r: &[u8], at: usize) -> bool
     requires { at + 8 ≤ length r.now }

@@ -1,6 +1,5 @@
 -- Laws of the owners of a face.
 pub mod Keys
 pub mod Loading
-pub mod Holders
 pub mod Passing
 pub mod Owning

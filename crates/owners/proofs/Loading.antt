@@ -1,4 +1,4 @@
--- A cell's ring as a part of its words, or of its rings laid flat.
+-- A cell's ring among its words, or among its rings laid flat.
 use Prim.Native.Nat.{ℕ, suc, ◌+◌, ◌-◌, ◌≤◌, ◌<◌}
 use mathlib.Core.Path.{◌≡◌, refl, sym, ap, ap₂, ◌∙◌}
 use mathlib.Core.Logic.{◌≢◌}
@@ -6,23 +6,56 @@ use mathlib.Core.List.{List, [], ◌∷◌, ◌++◌}
 use native.Mathlib.Omega.{arith}
 use lib.ListN.{length, get_or, take, drop}
 use lib.Seq.{sets, split_at, take_at, drop_at}
+use denote.Ref.{Bor}
+use Rattle.std.specs.Prelude.{Option, Some, None}
+use Rattle.std.specs.Option.{IsSome, option_map}
+use Rattle.std.specs.Iterator.{YieldsFirstBy, SkipsThenYields}
+use Rattle.std.proofs.lemmas.Option.{slice_get-get_or, same_Some}
+use Rattle.std.proofs.lemmas.Iterator.Consumers.{YieldsList-from_first, nth_from_yields_List}
 use Rattle.laws.specs.Lists.{each}
 use Rattle.laws.specs.Merging.{region}
 use Rattle.laws.proofs.ListLaws.{each_append}
-use Rattle.laws.proofs.Stores.{region_same, region_within}
-use Rattle.mesh.specs.Rings.{rings_of}
-use Rattle.mesh.specs.Steps.{ring_total, cell_with, WellCell}
-use Rattle.mesh.proofs.ByKind.{phed_is}
-use Rattle.faces.specs.Spans.{CellSpan}
+use Rattle.laws.proofs.Stores.{region_within}
+use Rattle.mesh.specs.Kinds.{kind_number}
+use Rattle.mesh.specs.Steps.{ring_total}
+use Rattle.mesh.specs.PhedRest.{phed_rest}
+use Rattle.mesh.specs.declared.kind.Kind.{Kind}
+use Rattle.mesh.specs.declared.kind.Kind.TheVariants.{Tet4, Hex8, Wedge6, Phed}
+use Rattle.mesh.specs.declared.phed.PhedRings.{PhedRings}
+use Rattle.faces.specs.Spans.{SpanIn}
 use Rattle.faces.specs.declared.Span.{Span}
 use Rattle.faces.proofs.Rings.{span_within}
-use Rattle.faces.proofs.Bounds.{ring_short, fixed_total}
 
--- rings laid flat
+-- ---- among the words
+
+-- the ring of number n of a PHED's
+module _ (s u : PhedRings) (n : ℕ) (r : Option (Bor (List ℕ))) (ran : SkipsThenYields (YieldsFirstBy (λ x. x.now) phed_rest) s n r u) (h : n < length (phed_rest s)) where
+  found : option_map (λ x. x.now) r ≡ Some (get_or (phed_rest s) n [])
+  found = nth_from_yields_List r u n ran (YieldsList-from_first (λ x. x.now) phed_rest (phed_rest s) refl) ∙ slice_get-get_or (phed_rest s) n [] h
+
+  pub phed_there : IsSome r
+  phed_there = go r found
+    where
+      go : (q : Option (Bor (List ℕ))) → option_map (λ x. x.now) q ≡ Some (get_or (phed_rest s) n []) → IsSome q
+      go None e = absurd (cc)
+      go (Some x) e = refl
+
+  pub phed_is_lem : (x : Bor (List ℕ)) → r ≡ Some x → x.now ≡ get_or (phed_rest s) n []
+  phed_is_lem x e = same_Some x.now (get_or (phed_rest s) n []) (sym (ap (option_map (λ (y : Bor (List ℕ)). y.now)) e) ∙ found)
+
+-- ---- among rings laid flat
+
+-- the kind of a cell that is no PHED
+pub no_phed : (k : Kind) → k ≢ Phed → kind_number k ≢ 4
+no_phed Tet4 z e = omega arith
+no_phed Hex8 z e = omega arith
+no_phed Wedge6 z e = omega arith
+no_phed Phed z e = z refl
+
 abbrev flat : List (List ℕ) → List ℕ
 flat rs = each (λ r. r) rs
 
--- a ring among rings laid flat
+-- a ring among them
 ring_part_lem : (rs : List (List ℕ)) (f : ℕ) → f < length rs → region (ring_total (take f rs)) (length (get_or rs f [])) (flat rs) ≡ get_or rs f []
 ring_part_lem rs f h =
     let a = take f rs in
@@ -33,47 +66,16 @@ ring_part_lem rs f h =
     ∙ ap (take (length r)) (drop_at (flat a) (r ++ flat rest) (ring_total a) refl)
     ∙ take_at r (flat rest) (length r) refl
 
--- the rings laid in front of a list
-pub flat_front : (l v : List ℕ) (rs : List (List ℕ)) (n : ℕ) → ring_total rs ≤ length l → v ≡ sets l 0 (flat rs) → n ≡ 0 + ring_total rs → take (n - 0) (drop 0 v) ≡ flat rs
-flat_front l v rs n h a e =
-    let m : n - 0 ≡ ring_total rs = omega arith in
-    ap₂ (λ (k : ℕ) (x : List ℕ). take k (drop 0 x)) m a ∙ region_same l 0 (flat rs) (omega arith)
+-- the same where they are put in front of a list
+module _ (rs : List (List ℕ)) (f : ℕ) (h : f < length rs) (s : Span) (p : SpanIn rs f s) where
+  pub span_end : s.start + s.len ≤ ring_total rs
+  span_end = omega (arith, p.start, p.len, span_within rs f h)
 
-module _ (k : ℕ) (ws : List ℕ) (f : ℕ) (s : Span) (w : WellCell (cell_with k ws)) (h : f < length (rings_of (cell_with k ws))) (p : CellSpan k ws f s) where
-  -- from start to end are len words
-  size : (s.start + s.len) - s.start ≡ s.len
-  size = omega arith
-
-  -- the ring fits 64 words
-  pub span_short : s.len ≤ 64
-  span_short = omega (arith, p.spot.len, ring_short k ws f w h)
-
-  -- a PHED's ring
-  pub run_is : k ≡ 4 → take ((s.at + s.len) - s.at) (drop s.at ws) ≡ get_or (rings_of (cell_with k ws)) f []
-  run_is e =
-      let m : (s.at + s.len) - s.at ≡ s.len = omega arith in
-      ap (λ (n : ℕ). take n (drop s.at ws)) m ∙ (p.run e).run ∙ ap (λ (rs : List (List ℕ)). get_or rs f []) (sym (phed_is k ws e))
-
-  -- where a ring ends among the cell's rings laid flat
-  pub flat_end : s.start + s.len ≤ ring_total (rings_of (cell_with k ws))
-  flat_end = omega (arith, p.spot.start, p.spot.len, span_within (rings_of (cell_with k ws)) f h)
-
-  -- the ring there
-  pub flat_is : take ((s.start + s.len) - s.start) (drop s.start (flat (rings_of (cell_with k ws)))) ≡ get_or (rings_of (cell_with k ws)) f []
-  flat_is =
-      ap₂ (λ (n j : ℕ). take n (drop j (flat (rings_of (cell_with k ws))))) (size ∙ p.spot.len) p.spot.start
-      ∙ ring_part_lem (rings_of (cell_with k ws)) f h
-
-  -- the same where the rings are put in front of a list
-  pub laid_end : k ≢ 4 → s.start + s.len ≤ 24
-  laid_end z = omega (arith, flat_end, fixed_total k ws w z)
-
-  -- the ring there
-  pub laid_is : (l v : List ℕ) → length l ≡ 24 → k ≢ 4 → v ≡ sets l 0 (flat (rings_of (cell_with k ws))) → take ((s.start + s.len) - s.start) (drop s.start v) ≡ get_or (rings_of (cell_with k ws)) f []
-  laid_is l v e z a =
-      let m : s.start ≡ 0 + s.start = omega arith in
-      let fits : (s.start + ((s.start + s.len) - s.start)) ≤ ring_total (rings_of (cell_with k ws)) = omega (arith, flat_end) in
-      let t = fixed_total k ws w z in
-      ap₂ (λ (j : ℕ) (x : List ℕ). take ((s.start + s.len) - s.start) (drop j x)) m a
-      ∙ region_within s.start ((s.start + s.len) - s.start) l 0 (flat (rings_of (cell_with k ws))) fits (omega arith)
-      ∙ flat_is
+  pub span_is : (l v : List ℕ) → ring_total rs ≤ length l → v ≡ sets l 0 (flat rs) → take ((s.start + s.len) - s.start) (drop s.start v) ≡ get_or rs f []
+  span_is l v room a =
+      let n : (s.start + s.len) - s.start ≡ length (get_or rs f []) = omega (arith, p.len) in
+      let m : s.start ≡ 0 + ring_total (take f rs) = omega (arith, p.start) in
+      ap₂ (λ (k j : ℕ). take k (drop j v)) n m
+      ∙ ap (λ (x : List ℕ). take (length (get_or rs f [])) (drop (0 + ring_total (take f rs)) x)) a
+      ∙ region_within (ring_total (take f rs)) (length (get_or rs f [])) l 0 (flat rs) (span_within rs f h) (omega arith)
+      ∙ ring_part_lem rs f h

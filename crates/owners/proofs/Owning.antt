@@ -10,18 +10,24 @@ use lib.Dec.{leb}
 use lib.ListN.{length, get_or, set, take, drop}
 use lib.Seq.{sets}
 use Rattle.laws.specs.Lists.{keep, sort, eql}
-use Rattle.laws.specs.Refusals.{refusal, refused, done}
+use Rattle.std.specs.Prelude.{Ok, Err}
+use Rattle.laws.specs.Refusals.{refusal, refused, done, answer}
 use Rattle.laws.proofs.Tests.{tested}
 use Rattle.laws.proofs.ListLaws.{keep_append}
-use Rattle.mesh.specs.Model.{Model, Raw, cells_from, cells_of}
+use Rattle.mesh.specs.Model.{Model, Raw, cells_of}
 use Rattle.mesh.specs.Rings.{Face, same_key, rings_of, faces_from, number_from, numbered, faces_of, faces}
 use Rattle.mesh.specs.Acceptance.{model_refusal, faces_in}
 use Rattle.mesh.specs.Lookup.{face_off, owners_of, owners_table, owners_answer, owners_after}
-use Rattle.mesh.specs.Steps.{ModelCounted}
-use Rattle.mesh.specs.declared.CellTally.{CellTally}
-use Rattle.faces.proofs.Rings.{rings_all, faces_are_lem, ring_at}
-use Rattle.faces.proofs.Lookups.{behind_refused, behind_accepted}
-use Rattle.faces.specs.Listing.{Noted}
+use Rattle.refusals.specs.Told.{number, told_by}
+use Rattle.refusals.specs.declared.Refusal.{Refusal}
+use Rattle.refusals.proofs.Told.{number-positive, told_err}
+use Rattle.mesh.specs.Lent.{lent}
+use Rattle.mesh.specs.Steps.{Tallied}
+use Rattle.mesh.specs.declared.accepted.Accepted.{Accepted}
+use Rattle.rings.specs.Put.{WordsPut}
+use Rattle.faces.specs.Spans.{rings_in}
+use Rattle.faces.proofs.Rings.{faces_are_lem, ring_at}
+use Rattle.faces.proofs.Lookups.{behind_refused, behind_accepted, accepted_is}
 use Rattle.owners.specs.Holding.{holders, held}
 
 -- ---- the owners
@@ -53,10 +59,10 @@ cells_numbered key i n (c ∷ cs) =
     ∙ ap₂ (λ (a b : List ℕ). a ++ b) (cells_from_lem key i n (rings_of c)) (cells_numbered key (suc i) (n + length (rings_of c)) cs)
 
 -- a face's owners are the cells that hold its sorted ring
-owners_are_lem : (m : Model) (f : ℕ) → held (sort leb (get_or (rings_all m) f [])) 0 (cells_from 0 m.kinds m.ends m.words) ≡ owners_of (faces_in m) f
-unfolding owners_of same_key faces_in numbered cells_of
+owners_are_lem : (m : Model) (f : ℕ) → held (sort leb (get_or (rings_in m) f [])) 0 (cells_of m) ≡ owners_of (faces_in m) f
+unfolding owners_of same_key faces_in numbered
 owners_are_lem m f =
-    sym (cells_numbered (sort leb (get_or (rings_all m) f [])) 0 0 (cells_of m))
+    sym (cells_numbered (sort leb (get_or (rings_in m) f [])) 0 0 (cells_of m))
     ∙ ap (λ (r : List ℕ). map (λ (g : Face). g.cell) (keep (keyed (sort leb r)) (faces_in m))) (sym (ring_at m f))
 
 -- ---- the list filled
@@ -84,32 +90,41 @@ owners_refused : (m : Model) (f n : ℕ) (l : List ℕ) → refusal (owners_tabl
 unfolding owners_answer owners_after
 owners_refused m f n l e z = (sym (rw (e, ne_eqb n 0 z)), sym (rw (e, ne_eqb n 0 z)))
 
-module _ (m : Model) (f : ℕ) (t : CellTally) (k : ModelCounted m t) (l : List ℕ) where
-  -- the model is refused
-  pub refused_model : t.refusal ≢ 0 → (refused t.refusal ≡ owners_answer m f) × (l ≡ owners_after m f l)
-  refused_model z = owners_refused m f t.refusal l (behind_refused m ((12, face_off m f) ∷ []) (λ e. z (k.refusal ∙ e)) ∙ sym k.refusal) z
+-- the model is refused
+pub refused_model : (m : Model) (f : ℕ) (l : List ℕ) (e : Refusal) → told_by {A = Accepted} {B = Model} (λ a. lent a.model) (Err e) ≡ answer (model_refusal m) m → (refused (number e) ≡ owners_answer m f) × (l ≡ owners_after m f l)
+refused_model m f l e h =
+    let n = told_err {A = Accepted} {B = Model} (λ a. lent a.model) e (model_refusal m) m h in
+    let z : number e ≢ 0 = λ z. omega (arith, number-positive e, z) in
+    owners_refused m f (number e) l (behind_refused m ((12, face_off m f) ∷ []) (λ y. z (n ∙ y)) ∙ sym n) z
 
-  -- the model is accepted, and the row behind it decides
-  table : t.refusal ≡ 0 → refusal (owners_table m f) ≡ refusal ((12, face_off m f) ∷ [])
-  table z = behind_accepted m ((12, face_off m f) ∷ []) (sym k.refusal ∙ z)
+-- it is accepted, and the row behind it decides
+module _ (m : Model) (f : ℕ) (l : List ℕ) (x : Accepted) (told : told_by {A = Accepted} {B = Model} (λ a. lent a.model) (Ok x) ≡ answer (model_refusal m) m) where
+  tallied : Tallied m x.faces x.ring_words
+  tallied = (accepted_is m x told).2
+
+  table : refusal (owners_table m f) ≡ refusal ((12, face_off m f) ∷ [])
+  table = behind_accepted m ((12, face_off m f) ∷ []) (accepted_is m x told).0
 
   -- there is no such face
-  pub refused_face : t.refusal ≡ 0 → t.faces ≤ f → (refused 12 ≡ owners_answer m f) × (l ≡ owners_after m f l)
-  refused_face z h = owners_refused m f 12 l (table z ∙ rw (le-leb (length (faces_in m)) f (omega (arith, k.faces z)))) (λ e. omega arith)
+  pub refused_face : x.faces ≤ f → (refused 12 ≡ owners_answer m f) × (l ≡ owners_after m f l)
+  refused_face h = owners_refused m f 12 l (table ∙ rw (le-leb (length (faces_in m)) f (omega (arith, tallied.faces)))) (λ e. omega arith)
 
-  -- an accepted model, and a face of it
-  pub face_there : t.refusal ≡ 0 → f < t.faces → (model_refusal m ≡ 0) × (f < length (rings_all m))
-  face_there z h = (sym k.refusal ∙ z, omega (arith, k.faces z, faces_are_lem m))
+  -- there is one
+  pub face_there : f < x.faces → f < length (rings_in (lent x.model))
+  face_there h = omega (arith, tallied.faces, faces_are_lem m, ap (λ (v : Model). length (rings_in v)) (accepted_is m x told).1)
 
-  -- nothing is refused
-  none : t.refusal ≡ 0 → f < t.faces → refusal (owners_table m f) ≡ 0
-  none z h = table z ∙ rw (lt-leb (length (faces_in m)) f (omega (arith, k.faces z)))
+  -- so nothing is refused
+  none : f < x.faces → refusal (owners_table m f) ≡ 0
+  none h = table ∙ rw (lt-leb (length (faces_in m)) f (omega (arith, tallied.faces)))
 
   -- all owners are noted
-  pub answered : t.refusal ≡ 0 → f < t.faces → (key out : List ℕ) (n : ℕ) → key ≡ sort leb (get_or (rings_all m) f []) → Noted l out 0 n (held key 0 (cells_from 0 m.kinds m.ends m.words))
-      → (done n ≡ owners_answer m f) × (out ≡ owners_after m f l)
+  pub answered : f < x.faces → (key out : List ℕ) (n : ℕ) → key ≡ sort leb (get_or (rings_in (lent x.model)) f []) → WordsPut (held key 0 (cells_of (lent x.model))) l out 0 n → (done n ≡ owners_answer m f) × (out ≡ owners_after m f l)
   unfolding owners_answer owners_after
-  answered z h key out n e q =
-      let o = ap (λ (x : List ℕ). held x 0 (cells_from 0 m.kinds m.ends m.words)) e ∙ owners_are_lem m f in
-      let c : n ≡ length (owners_of (faces_in m) f) = omega (arith, q.count, ap length o) in
-      (sym (rw (none z h, sym c)), q.put ∙ ap (sets l 0) o ∙ sym (rw (none z h) (sym (sets_fit l (owners_of (faces_in m) f)))))
+  answered h key out n e q =
+      let same = (accepted_is m x told).1 in
+      let o =
+      ap (λ (k : List ℕ). held k 0 (cells_of (lent x.model))) e
+      ∙ ap (λ (v : Model). held (sort leb (get_or (rings_in v) f [])) 0 (cells_of v)) same
+      ∙ owners_are_lem m f in
+      let c : n ≡ length (owners_of (faces_in m) f) = omega (arith, q.0, ap length o) in
+      (sym (rw (none h, sym c)), q.1 ∙ ap (sets l 0) o ∙ sym (rw (none h) (sym (sets_fit l (owners_of (faces_in m) f)))))

@@ -1,2 +1,3 @@
 -- Internal contracts on the owners of a face.
 pub mod Holding
+pub mod Noted

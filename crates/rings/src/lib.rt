@@ -1,8 +1,7 @@
 // The rings of cells, put one after the other into a lent list.
 #![tactic(auto)]
 
-ghost use Rattle.std.specs.Prelude.{◌≡◌, All, ◌+◌, ◌≤◌, ◌<◌, length, get_or, map};
-ghost use Rattle.std.proofs.lemmas.List.Edits.{sets};
+ghost use Rattle.std.specs.Prelude.{All, ◌+◌, ◌≤◌, ◌<◌, length, get_or, map};
 ghost use Rattle.laws.specs.Lists.{each};
 ghost use Rattle.mesh.specs.Model.{cells_of};
 ghost use Rattle.mesh.specs.Lent.{lent};
@@ -59,14 +58,6 @@ fn put_rings<const N: usize, const M: usize>(
     k
 }
 
-// Words as they are.
-pub fn put_words(words: &[u32], out: &mut [u32], at: usize)
-    requires { at + length words.now ≤ length out.old }
-    ensures { out.new ≡ sets out.old at words.now }
-{
-    out[at..at + words.len()].copy_from_slice(words);
-}
-
 // A PHED's rings; answers the place behind them.
 fn put_phed(words: &[u32], out: &mut [u32], at: usize) -> usize
     requires { at + ring_total (phed_rings words.now) ≤ length out.old }
@@ -74,8 +65,9 @@ fn put_phed(words: &[u32], out: &mut [u32], at: usize) -> usize
 {
     let mut k = at;
     for ring in PhedRings::new(words) {
-        put_words(ring, out, k);
-        k += ring.len();
+        let end = k + ring.len();
+        out[k..end].copy_from_slice(ring);
+        k = end;
     }
     k
 }

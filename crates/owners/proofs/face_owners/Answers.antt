@@ -1,38 +1,41 @@
+use native.Mathlib.Omega.{arith}
+use borrow.Author.Rules.{rules}
+use Rattle.std.proofs.lemmas.Result.{err_from_is_err_and}
+use Rattle.mesh.specs.Lent.{lent}
+use Rattle.mesh.specs.Model.{cells_of}
+use Rattle.faces.proofs.Rings.{few_faces}
+use Rattle.owners.proofs.Passing.{held_few}
 use Rattle.owners.proofs.Owning.{refused_model, refused_face, face_there, answered}
-use Rattle.owners.proofs.Keys.{part_front, part_most}
-use Rattle.faces.proofs.Rings.{sound_of}
-use Rattle.mesh.specs.Model.{model_of}
-use mathlib.Core.Path.{refl, ◌∙◌}
 use Rattle.owners.proofs.face_owners.Goals as goal
 
-pub returns-then-tally-ne0 : goal.returns-then-tally-ne0
-returns-then-tally-ne0 c =
+pub returns-in_err-m : goal.returns-in_err-m
+returns-in_err-m c =
     let a = c.args in
-    let m = model_of a.coords.now a.kinds.now a.ends.now a.words.now a.tol a.checks.0 0 in
-    refused_model m a.face _ c.accept-tally.ensures a.owners.now c.if-tally-ne0.true
+    let p = err_from_is_err_and c.from_residual.result c.from_residual.ensures.1 in
+    rw (p.1, p.2) (refused_model (lent a.model.now) a.face a.owners.now c.in_err-m.field-0.0 c.in_err-m.ensures)
 
-pub returns-then-tally-face : goal.returns-then-tally-face
-returns-then-tally-face c =
+pub returns-then-m-face : goal.returns-then-m-face
+returns-then-m-face c =
     let a = c.args in
-    let m = model_of a.coords.now a.kinds.now a.ends.now a.words.now a.tol a.checks.0 0 in
-    refused_face m a.face _ c.accept-tally.ensures a.owners.now c.if-tally-ne0.false c.if-tally-face.true
+    refused_face (lent a.model.now) a.face a.owners.now c.in_ok-m.m c.in_ok-m.ensures c.if-m-face.true
 
-pub load_key-n-requires : goal.load_key-n-requires
-load_key-n-requires c =
+pub key_of-key-requires : goal.key_of-key-requires
+key_of-key-requires c =
     let a = c.args in
-    let m = model_of a.coords.now a.kinds.now a.ends.now a.words.now a.tol a.checks.0 0 in
-    let f = face_there m a.face _ c.accept-tally.ensures a.owners.now c.if-tally-ne0.false c.if-tally-face.false in
-    (sound_of m f.0, f.1, refl)
+    face_there (lent a.model.now) a.face a.owners.now c.in_ok-m.m c.in_ok-m.ensures c.if-m-face.false
 
-pub note_cells-count-requires : goal.note_cells-count-requires
-note_cells-count-requires c =
-    let a = c.args in
-    let m = model_of a.coords.now a.kinds.now a.ends.now a.words.now a.tol a.checks.0 0 in
-    let f = face_there m a.face _ c.accept-tally.ensures a.owners.now c.if-tally-ne0.false c.if-tally-face.false in
-    (sound_of m f.0, part_most c.load_key-n.result _ c.load_key-n.ensures.0)
+pub note_cells-requires : goal.note_cells-requires
+note_cells-requires c =
+    let m = c.in_ok-m.m in
+    omega (arith, few_faces (lent m.model) m.faces m.ring_words m.tallied)
+
+pub overflow_cast-result : goal.overflow_cast-result
+overflow_cast-result c =
+    let m = c.in_ok-m.m in
+    omega (arith, few_faces (lent m.model) m.faces m.ring_words m.tallied, c.note_cells.ensures.put.0, held_few c.key_of-key.result.now 0 (cells_of (lent m.model)))
 
 pub returns : goal.returns
 returns c =
     let a = c.args in
-    let m = model_of a.coords.now a.kinds.now a.ends.now a.words.now a.tol a.checks.0 0 in
-    answered m a.face _ c.accept-tally.ensures a.owners.now c.if-tally-ne0.false c.if-tally-face.false _ _ _ (part_front c.load_key-n.result _ ∙ c.load_key-n.ensures.1) c.note_cells-count.ensures.0
+    let q = answered (lent a.model.now) a.face a.owners.now c.in_ok-m.m c.in_ok-m.ensures c.if-m-face.false _ _ _ c.key_of-key.ensures.0 c.note_cells.ensures.put in
+    search rules
