@@ -10,20 +10,6 @@ loop-i-init c =
     let a = c.args in
     noting_start (plain_rules a.coords.now a.tol) a.l a.f a.work.now a.r c.requires.searching c.requires.f_lt_faces.2
 
-pub overflow_add-g : goal.overflow_add-g
-overflow_add-g c =
-    let a = c.args in
-    let few = candidates_few a.l.at (input a.l.at a.work.now) a.f in
-    let sp = c.requires.searching.spaced in
-    omega (arith, sp.marks_at, sp.others_at, sp.last_at, sp.pairs_at, sp.spare_at, sp.ends, few, c.requires.f_lt_faces.3)
-
-pub offset_bounds-work-l : goal.offset_bounds-work-l
-offset_bounds-work-l c =
-    let a = c.args in
-    let few = candidates_few a.l.at (input a.l.at a.work.now) a.f in
-    let sp = c.requires.searching.spaced in
-    omega (arith, sp.marks_at, sp.others_at, sp.last_at, sp.pairs_at, sp.spare_at, sp.ends, few, c.requires.f_lt_faces.3)
-
 pub bounds-work-l : goal.bounds-work-l
 bounds-work-l c =
     let a = c.args in
