@@ -9,19 +9,21 @@ use borrow.Author.Tests.{lt-ltb, le-ltb, le-leb, lt-leb, ne_eqb}
 use lib.Dec.{ltb}
 use lib.ListN.{length, take, drop, replicate, length-take}
 use lib.Seq.{sets}
+use Rattle.std.specs.Prelude.{Result, Ok, Err}
 use Rattle.laws.specs.Refusals.{done, refusal}
 use Rattle.laws.proofs.Stores.{sets_front}
 use Rattle.laws.proofs.Tables.{clear_append, refusal_first}
+use Rattle.refusals.specs.declared.Refusal.{Refusal}
+use Rattle.refusals.specs.Told.{number, told_by}
+use Rattle.refusals.proofs.Told.{number-positive, ok_told, err_told}
 use Rattle.mesh.specs.Model.{Model}
 use Rattle.mesh.specs.Acceptance.{model_table, model_refusal, faces_in, work_needed}
-use Rattle.mesh.specs.Lookup.{face_off, count_told}
-use Rattle.mesh.specs.declared.Counted.{Counted}
-use Rattle.mesh.specs.declared.Counted.TheVariants.{Refused, Count}
+use Rattle.mesh.specs.Lookup.{face_off}
 use Rattle.mesh.proofs.Accepts.{accepted_clear}
 use Rattle.seek.specs.declared.Tally.{Tally}
 use Rattle.seek.specs.Ways.{tally_of}
 use Rattle.seek.specs.Candidates.{Tallied}
-use Rattle.seek.proofs.Tallies.{tallied_zero, tally_is}
+use Rattle.seek.proofs.Tallies.{tally_is}
 use Rattle.candidates.specs.declared.SoughtFace.{SoughtFace}
 use Rattle.candidates.specs.Seeking.{candidates_of, seek_refusal, Seeking}
 
@@ -51,47 +53,39 @@ module _ (m : Model) (f : ℕ) (work : List ℕ) where
   row_none ok h k = behind ok ∙ rw (le-ltb (length work) (work_needed m) h, lt-leb (length (faces_in m)) f k)
 
   -- a refusal changes nothing
-  pub refused_so : (by : Bool) (found : List ℕ) (n : ℕ) (r : SoughtFace) → seek_refusal m f work ≡ n → n ≢ 0 → r.answer ≡ Refused n → r.tally.nodes ≡ 0 → r.tally.triples ≡ 0
-      → Seeking by m f found found work work r
-  refused_so by found n r e z told nodes triples =
-      let q = ne_eqb n 0 z in
+  pub refused_so : (by : Bool) (found : List ℕ) (e : Refusal) → number e ≡ seek_refusal m f work → Seeking by m f found found work work (Err e)
+  refused_so by found e is =
+      let q = ne_eqb (seek_refusal m f work) 0 (λ z. omega (arith, z, is, number-positive e)) in
       record {
-        answered = rw (told, e, q);
-        found_is = rw (e, q);
-        work_is = rw (e, q);
-        sought = tally_is by _ r.tally (tallied_zero by (rw (e, q)) r.tally nodes triples);
+        answered = err_told (λ (s : SoughtFace). s.count) e (seek_refusal m f work) (length (candidates_of m f)) is;
+        found_is = rw q;
+        work_is = rw q;
+        sought = err_told (λ (s : SoughtFace). s.tally) e (seek_refusal m f work) (tally_of by 1) is;
       }
 
   pub sought_so : (by : Bool) (found found' work' : List ℕ) (n : ℕ) (t : Tally) → seek_refusal m f work ≡ 0 → n ≡ length (candidates_of m f) → found' ≡ sets found 0 (take (length found) (candidates_of m f))
-      → work' ≡ replicate (work_needed m) 0 ++ drop (length (replicate {A = ℕ} (work_needed m) 0)) work → Tallied by 1 t → Seeking by m f found found' work work' (record { answer = Count n; tally = t })
+      → work' ≡ replicate (work_needed m) 0 ++ drop (length (replicate {A = ℕ} (work_needed m) 0)) work → Tallied by 1 t → Seeking by m f found found' work work' (Ok (record { count = n; tally = t }))
   sought_so by found found' work' n t ok e p q w =
       let fits : length (take (length found) (candidates_of m f)) ≤ length found = omega (arith, length-take (length found) (candidates_of m f)) in
+      let s : SoughtFace = record { count = n; tally = t } in
       record {
-        answered = rw (ok, e);
+        answered = ok_told (λ (s : SoughtFace). s.count) s (seek_refusal m f work) (length (candidates_of m f)) ok e;
         found_is = p ∙ sets_front found (take (length found) (candidates_of m f)) fits ∙ rw ok;
         work_is = q ∙ rw ok;
-        sought = tally_is by 1 t w ∙ rw ok;
+        sought = ok_told (λ (s : SoughtFace). s.tally) s (seek_refusal m f work) (tally_of by 1) ok (tally_is by 1 t w);
       }
 
 -- ---- both ways
 
 -- "alike whether pairs are sought by common nodes or by node triples": on the same model, face and lent memory either way gives the same answer and leaves the same
-pub ways_alike : (m : Model) (f : ℕ) (found a b work v w : List ℕ) (r s : SoughtFace) → Seeking true m f found a work v r → Seeking false m f found b work w s → (r.answer ≡ s.answer) × (a ≡ b) × (v ≡ w)
-ways_alike m f found a b work v w r s p q = (
-  same_told r.answer s.answer (p.answered ∙ sym q.answered),
-  p.found_is ∙ sym q.found_is,
-  p.work_is ∙ sym q.work_is,
-)
-  where
-    same_told : (x y : Counted) → count_told x ≡ count_told y → x ≡ y
-    same_told (Refused i) (Refused j) e = cc
-    same_told (Refused i) (Count j) e = let z : ◌≡◌ {A = ℕ} 0 1 = cc in absurd (omega arith)
-    same_told (Count i) (Refused j) e = let z : ◌≡◌ {A = ℕ} 0 1 = cc in absurd (omega arith)
-    same_told (Count i) (Count j) e = cc
+pub ways_alike : (m : Model) (f : ℕ) (found a b work v w : List ℕ) (r s : Result SoughtFace Refusal) → Seeking true m f found a work v r → Seeking false m f found b work w s
+    → (told_by (λ x. x.count) r ≡ told_by (λ x. x.count) s) × (a ≡ b) × (v ≡ w)
+ways_alike m f found a b work v w r s p q =
+    (p.answered ∙ sym q.answered, p.found_is ∙ sym q.found_is, p.work_is ∙ sym q.work_is)
 
 -- and where nothing refuses, what the code has found are the definition's candidates, as many as fit, and their number, by the one search that was asked for
-pub candidates_sought : (by : Bool) (m : Model) (f : ℕ) (found found' work work' : List ℕ) (r : SoughtFace) → model_refusal m ≡ 0 → work_needed m ≤ length work → f < length (faces_in m) → Seeking by m f found found' work work' r
-    → (count_told r.answer ≡ done (length (candidates_of m f))) × (found' ≡ take (length found) (candidates_of m f) ++ drop (length (take (length found) (candidates_of m f))) found) × (r.tally ≡ tally_of by 1)
+pub candidates_sought : (by : Bool) (m : Model) (f : ℕ) (found found' work work' : List ℕ) (r : Result SoughtFace Refusal) → model_refusal m ≡ 0 → work_needed m ≤ length work → f < length (faces_in m) → Seeking by m f found found' work work' r
+    → (told_by (λ x. x.count) r ≡ done (length (candidates_of m f))) × (found' ≡ take (length found) (candidates_of m f) ++ drop (length (take (length found) (candidates_of m f))) found) × (told_by (λ x. x.tally) r ≡ done (tally_of by 1))
 candidates_sought by m f found found' work work' r ok h k p = let e = row_none m f work ok h k in (
   p.answered ∙ rw e,
   p.found_is ∙ rw e,

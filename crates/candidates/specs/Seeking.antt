@@ -1,9 +1,11 @@
 -- The candidates of one face of a model: why seeking them refuses, what the lent list and the work hold afterwards, and which way was taken.
-use Rattle.std.specs.Prelude.{ℕ, Bool, cond, List, [], ◌∷◌, ◌++◌, map, ◌≡◌, eqb, length, take, replicate}
+use Rattle.std.specs.Prelude.{ℕ, Bool, List, [], ◌∷◌, ◌++◌, map, ◌≡◌, length, take, replicate, Result}
 use Rattle.laws.specs.Refusals.{refusal, answer, filled}
+use Rattle.refusals.specs.Told.{told_by}
+use Rattle.refusals.specs.declared.Refusal.{Refusal}
 use Rattle.mesh.specs.Model.{Model}
 use Rattle.mesh.specs.Acceptance.{faces_in, work_needed, check_table}
-use Rattle.mesh.specs.Lookup.{face_at, face_off, count_told}
+use Rattle.mesh.specs.Lookup.{face_at, face_off}
 use Rattle.findings.specs.Rules.{rules_of, cells_in}
 use Rattle.findings.specs.Candidates.{candidates}
 use Rattle.seek.specs.Ways.{tally_of}
@@ -18,8 +20,8 @@ unfoldable pub seek_refusal : Model → ℕ → List ℕ → ℕ
 seek_refusal m f work = refusal (check_table m (length work) ++ ((12, face_off m f) ∷ []))
 
 -- The promise, by common nodes or by node triples: the whole count; as many candidates as fit; the needed words of work, which end zero; the way taken.
-pub record Seeking (is_by_nodes : Bool) (m : Model) (f : ℕ) (found found' work work' : List ℕ) (r : SoughtFace) : Type 0 where
-  pub answered : count_told r.answer ≡ answer (seek_refusal m f work) (length (candidates_of m f))
+pub record Seeking (is_by_nodes : Bool) (m : Model) (f : ℕ) (found found' work work' : List ℕ) (r : Result SoughtFace Refusal) : Type 0 where
+  pub answered : told_by (λ s. s.count) r ≡ answer (seek_refusal m f work) (length (candidates_of m f))
   pub found_is : found' ≡ filled (seek_refusal m f work) (take (length found) (candidates_of m f)) found
   pub work_is : work' ≡ filled (seek_refusal m f work) (replicate (work_needed m) 0) work
-  pub sought : r.tally ≡ tally_of is_by_nodes (cond (eqb (seek_refusal m f work) 0) 1 0)
+  pub sought : told_by (λ s. s.tally) r ≡ answer (seek_refusal m f work) (tally_of is_by_nodes 1)

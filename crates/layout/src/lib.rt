@@ -32,8 +32,7 @@ pub fn row(work: &[u32], l: Layout, g: usize) -> usize
     requires g_le_faces { g ≤ l.at.faces }
     ensures { (result ≡ get_or (input l.at work.now) (l.rows + g) 0) × (result ≤ l.total) }
 {
-    let at = l.rows + g;
-    counting::wide(work[at])
+    work[l.rows + g] as usize
 }
 
 // The number of the first face of cell c; for c past the last, of all faces.
@@ -42,8 +41,7 @@ pub fn first_face(work: &[u32], l: Layout, c: usize) -> usize
     requires c_bound { c ≤ l.at.cell_count }
     ensures { (result ≡ first_of l (input l.at work.now) c) × (result ≤ l.at.faces) }
 {
-    let at = l.firsts + c;
-    counting::wide(work[at])
+    work[l.firsts + c] as usize
 }
 
 // The cell of face g.
@@ -52,16 +50,14 @@ pub fn cell_of(work: &[u32], l: Layout, g: usize) -> usize
     requires g_lt_faces { g < l.at.faces }
     ensures { (result ≡ cell_of l.at (input l.at work.now) g) × (result < l.at.cell_count) }
 {
-    let p = l.at;
-    let at = p.cells + g;
-    counting::wide(work[at])
+    work[l.at.cells + g] as usize
 }
 
 // A row while the tables below the marks of bow-ties stand, and no more: where the ring of face g starts; for g past the last, where all end.
+// Apart from `row`, whose body is the same: one contract over both kinds of tables would take a ghost value, to be named at each call.
 pub fn ring_row(work: &[u32], l: Layout, g: usize) -> usize
     requires { Ringed l (take l.at.bows work.now) × (g ≤ l.at.faces) }
     ensures { (result ≡ get_or (take l.at.bows work.now) (l.rows + g) 0) × (result ≤ l.total) }
 {
-    let at = l.rows + g;
-    counting::wide(work[at])
+    work[l.rows + g] as usize
 }

@@ -17,6 +17,7 @@ ghost use Rattle.layout.specs.Kept.{KeptAny};
 use records::{Kind, Record, Sink};
 
 // How many faces with one key are met, and the second of them; before there is one, the face that is asked for.
+// No Option for 'none counts': less than three and none are the same to the one who asks, that there is no finding.
 #[derive(Clone, Copy)]
 struct Tally {
     count: usize,
@@ -79,25 +80,20 @@ fn walk(work: &[u32], l: layout::Layout, g: usize, x: usize, e: usize) -> Tally
     requires listed { Listed l work.now g x e }
     ensures { result ≡ tallied g (keep (same_as l (input l.at work.now) g) (rest x e work.now)) (start g) }
 {
-    let mut s = Tally {
+    let none = Tally {
         count: 0,
         second: g,
     };
-    let mut i = x;
-    while i < e {
-        let h = counting::wide(work[i]);
-        if same_key(work, l, g, h) {
-            if h < g {
-                return Tally {
-                    count: 0,
-                    second: g,
-                };
-            }
-            s = note(s, h);
-            i += 1;
-        } else {
-            i += 1;
+    let mut s = none;
+    for i in x..e {
+        let h = work[i] as usize;
+        if !same_key(work, l, g, h) {
+            continue;
         }
+        if h < g {
+            return none;
+        }
+        s = note(s, h);
     }
     s
 }

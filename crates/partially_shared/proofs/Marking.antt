@@ -1,5 +1,5 @@
 -- One face pair more: a cell that is marked keeps its pair, one that is not gets it.
-use Prim.Native.Nat.{ℕ, suc, ◌+◌, ◌≤◌, ◌<◌}
+use Prim.Native.Nat.{ℕ, suc, ◌+◌, ◌≤◌, ◌<◌, min, max}
 use mathlib.Core.Path.{◌≡◌, refl, sym, ap, ap₂, ◌∙◌, subst}
 use mathlib.Core.Logic.{◌⊎◌, inl, inr, ◌≢◌}
 use mathlib.Core.Bool.{Bool, true, false}
@@ -26,7 +26,7 @@ use Rattle.layout.specs.declared.Layout.{Layout}
 use Rattle.layout.specs.Tables.{Spaced}
 use Rattle.partially_shared.specs.declared.Range.{Range}
 use Rattle.partially_shared.specs.Listing.{list_count, list_with}
-use Rattle.partially_shared.specs.Hits.{spans_at, passing, hit_of, MarkIs, Marked, Higher, Beside}
+use Rattle.partially_shared.specs.Hits.{spans_at, passing, hit_of, MarkIs, Marked, Beside}
 use Rattle.partially_shared.proofs.Listing.{list_before, list_beside, listed_more}
 
 -- a list behind one that is not empty does not change the first
@@ -168,8 +168,8 @@ module _ (R : Rules) (l : Layout) (t : List ℕ) (f g : ℕ) where
       other_own = other_as c low ∙ get_or-set_same (set w (l.marks + c) (f + 1)) (l.others + c) g 0 (omega (arith, length-set w (l.marks + c) (f + 1), sp.last_at, sp.pairs_at, sp.spare_at, sp.ends, low))
 
       -- a pair that passes marks its cell, where that is not marked yet
-      pub marked_in : (s : Range) → get_or w (l.marks + c) 0 ≡ 0 → spans_at R l t f g ≡ true → (s.lo ≤ r.lo) × (s.lo ≤ c) × Higher r.hi (c + 1) s.hi × (s.count ≡ list_count l r.count) → Marked l t (H ++ passing R l t f (g ∷ [])) v s
-      marked_in s z y e = record { marks = mark; within = inside; listed = listed_more l c r.count s.count w q sp long low behind mark_first p.listed e.3 }
+      pub marked_in : (s : Range) → get_or w (l.marks + c) 0 ≡ 0 → spans_at R l t f g ≡ true → s.lo ≡ min r.lo c → s.hi ≡ max r.hi (c + 1) → s.count ≡ list_count l r.count → Marked l t (H ++ passing R l t f (g ∷ [])) v s
+      marked_in s z y lo hi count = record { marks = mark; within = inside; listed = listed_more l c r.count s.count w q sp long low behind mark_first p.listed count }
         where
           long : length q ≡ length w
           long = length-set (set w (l.marks + c) (f + 1)) (l.others + c) g ∙ length-set w (l.marks + c) (f + 1)
@@ -196,8 +196,8 @@ module _ (R : Rules) (l : Layout) (t : List ℕ) (f g : ℕ) where
           inside b k m = go (tested (eqb c b))
             where
               go : (eqb c b ≡ true) ⊎ (eqb c b ≡ false) → (s.lo ≤ b) × (b < s.hi)
-              go (inl x) = let j : c ≡ b = eqb-true c b x in (omega (arith, e.1, j), omega (arith, e.2.above.1, j))
+              go (inl x) = let j : c ≡ b = eqb-true c b x in (omega (arith, lo, j), omega (arith, hi, j))
               go (inr x) =
                   let n : c ≢ b = λ j. clash (ap (λ (i : ℕ). eqb i b) j ∙ eqb_self b) x in
                   let i = p.within b k (λ j. m (mark_other b k n ∙ j)) in
-                  (omega (arith, e.0, i.0), omega (arith, e.2.above.0, i.1))
+                  (omega (arith, lo, i.0), omega (arith, hi, i.1))

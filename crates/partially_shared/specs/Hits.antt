@@ -44,11 +44,6 @@ pub record Marked (l : Layout) (t : List ℕ) (hits : List (ℕ × ℕ)) (w : Li
 abbrev pub MarkedMore : Layout → List ℕ → List (ℕ × ℕ) → (w v : List ℕ) → (r s : Range) → Type 0
 MarkedMore l t more w v r s = (hits : List (ℕ × ℕ)) → Marked l t hits w r → Marked l t (hits ++ more) v s
 
--- r is the higher of a and b
-pub record Higher (a b r : ℕ) : Type 0 where
-  pub above : (a ≤ r) × (b ≤ r)
-  pub least : (n : ℕ) → a ≤ n → b ≤ n → r ≤ n
-
 -- what the search reads stands in w
 pub record Searching (l : Layout) (w : List ℕ) : Type 0 where
   pub faced : Faced l (input l.at w)

@@ -165,13 +165,7 @@ fn keep_listed(
 fn by_list(r: Range, l: layout::Layout) -> bool
     ensures { ListFits l r.count result }
 {
-    if r.hi <= r.lo {
-        return false;
-    }
-    if l.words < r.count {
-        return false;
-    }
-    r.count < (r.hi - r.lo) / 16
+    r.lo < r.hi && r.count <= l.words && r.count < (r.hi - r.lo) / 16
 }
 
 // The partly shared pairs whose first cell is c, its faces sought the way that is asked for and counted. The pairs do not depend on the way.

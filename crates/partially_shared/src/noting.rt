@@ -10,41 +10,9 @@ ghost use Rattle.triple_keys.specs.Keys.{Keyed};
 ghost use Rattle.layout.specs.Tables.{face_count, Spaced, Standing};
 ghost use Rattle.layout.specs.ByCell.{plain_rules};
 ghost use Rattle.partially_shared.specs.Listing.{list_count, list_with};
-ghost use Rattle.partially_shared.specs.Hits.{passing, face_hits, cell_hits, Marked, MarkedMore, Higher, Searching, Beside};
+ghost use Rattle.partially_shared.specs.Hits.{passing, face_hits, cell_hits, Marked, MarkedMore, Searching, Beside};
 
 use crate::{Noted, Range};
-
-// The lower of two.
-fn lower(a: usize, b: usize) -> usize
-    ensures { (result ≤ a) × (result ≤ b) }
-{
-    if b < a {
-        return b;
-    }
-    a
-}
-
-// The higher of two.
-fn higher(a: usize, b: usize) -> usize
-    ensures { Higher a b result }
-{
-    if a < b {
-        return b;
-    }
-    a
-}
-
-// The range with cell b, and `count` listed.
-fn widen(r: Range, b: usize, count: usize) -> Range
-    requires { b < 2 ^ 32 }
-    ensures { (result.lo ≤ r.lo) × (result.lo ≤ b) × Higher r.hi (b + 1) result.hi × (result.count ≡ count) }
-{
-    Range {
-        lo: lower(r.lo, b),
-        hi: higher(r.hi, b + 1),
-        count: count,
-    }
-}
 
 // Cell b is listed behind n others, where there is room: as the first word of a pair, whose second word may be any.
 fn list_cell(work: &mut [u32], l: layout::Layout, b: usize, n: usize) -> usize
@@ -55,7 +23,7 @@ fn list_cell(work: &mut [u32], l: layout::Layout, b: usize, n: usize) -> usize
     let words = l.words;
     if n < words {
         let at = l.pairs + 2 * n;
-        work[at] = counting::narrow(b);
+        work[at] = b as u32;
         return n + 1;
     }
     words + 1
@@ -67,10 +35,8 @@ fn mark(work: &mut [u32], l: layout::Layout, b: usize, f: usize, g: usize)
     requires b_bound { (b < l.at.cell_count) × (f < l.at.faces) × (g < l.at.faces) }
     ensures { work.new ≡ set (set work.old (l.marks + b) (f + 1)) (l.others + b) g }
 {
-    let m = l.marks + b;
-    let o = l.others + b;
-    work[m] = counting::narrow(f + 1);
-    work[o] = counting::narrow(g);
+    work[l.marks + b] = (f + 1) as u32;
+    work[l.others + b] = g as u32;
 }
 
 // Faces f and g of different cells: the cell of g is marked with them, unless it is marked or their common nodes span no area.
@@ -104,7 +70,11 @@ fn note(
     }
     mark(work, l, b, f, g);
     let count = list_cell(work, l, b, r.count);
-    widen(r, b, count)
+    Range {
+        lo: r.lo.min(b),
+        hi: r.hi.max(b + 1),
+        count,
+    }
 }
 
 // The n candidates of face f, which stand at `found`, in order.
@@ -122,14 +92,10 @@ fn note_found(
     ensures marked_more { MarkedMore l (input l.at work.old) (face_hits (plain_rules coords.now tol) l (input l.at work.old) f) work.old work.new r result }
     ensures beside { Beside l.marks l work.old work.new × (result.hi ≤ l.at.cell_count) }
 {
-    let at = l.at;
-    let found = at.found;
     let mut s = r;
-    let mut i = 0;
-    while i < n {
-        let g = counting::wide(work[found + i]);
+    for i in 0..n {
+        let g = work[l.at.found + i] as usize;
         s = note(coords, tol, work, l, f, g, s);
-        i += 1;
     }
     s
 }
@@ -160,10 +126,7 @@ fn note_face(
     let found = pairs::candidates_of(work, at, by, f, end, by_nodes);
     let more = found.tallied(tally);
     let range = note_found(coords, tol, work, l, f, found.count(), before);
-    Noted {
-        range: range,
-        tally: more,
-    }
+    Noted { range, tally: more }
 }
 
 // The faces of cell c, in order, where no cell is marked; each is counted.
@@ -185,20 +148,16 @@ pub fn note_cell(
     ensures tallied_more { TalliedMore by_nodes (face_count l (input l.at work.old) c) tally result.tally }
 {
     let at = l.at;
+    let first = layout::first_face(work, l, c);
     let end = layout::first_face(work, l, c + 1);
     let none = Range {
         lo: at.cell_count,
         hi: 0,
         count: 0,
     };
-    let mut s = Noted {
-        range: none,
-        tally: tally,
-    };
-    let mut f = layout::first_face(work, l, c);
-    while f < end {
+    let mut s = Noted { range: none, tally };
+    for f in first..end {
         s = note_face(coords, tol, work, l, by, f, end, by_nodes, s);
-        f += 1;
     }
     s
 }

@@ -7,8 +7,8 @@ use native.Mathlib.Numerals.{add-one}
 use native.Mathlib.Omega.{arith}
 use borrow.Author.Tests.{eq-eqb, ne_eqb}
 use lib.Dec.{eqb}
-use lib.ListN.{length, get_or, set, take, drop, length-append, length-set}
-use lib.Seq.{sets, length-sets, drop-cons, drop-set-add, take-set-lt, take-set-le}
+use lib.ListN.{length, get_or, set, take, drop, length-append}
+use lib.Seq.{sets, drop-cons, drop-set-add, take-set-lt, take-set-le}
 use Rattle.laws.specs.Lists.{only_if}
 use Rattle.laws.specs.Merging.{region, AllBelow}
 use Rattle.laws.proofs.Bounds.{below_at}
@@ -20,7 +20,7 @@ use Rattle.findings.specs.Rules.{pair_of}
 use Rattle.pair_sort.specs.Pairs.{flat}
 use Rattle.pair_sort.proofs.PairLaws.{length_flat}
 use Rattle.repeats.specs.declared.Regions.{Regions}
-use Rattle.repeats.specs.Marks.{hit, hits, mark, weld_in, marks_in, place_of, Noted}
+use Rattle.repeats.specs.Marks.{hit, hits, mark, weld_in, marks_in, place_of, Noted, Numbered, Sound}
 use Rattle.repeats.proofs.Walk.{length_mark}
 
 -- ---- words
@@ -48,7 +48,7 @@ module _ (at : Regions) (w₀ : List ℕ) (f : at.weld + at.nodes ≤ at.last) (
       ∙ get_or_any (region at.weld at.nodes w₀) n 0 n (omega (arith, length-region at.weld at.nodes w₀ (omega arith)))
 
   -- the word that holds the number, as long as nothing is stored there
-  pub weld_read : (w : List ℕ) → take at.last w ≡ take at.last w₀ → get_or w (at.weld + n) 0 ≡ weld_in at w₀ n
+  weld_read : (w : List ℕ) → take at.last w ≡ take at.last w₀ → get_or w (at.weld + n) 0 ≡ weld_in at w₀ n
   weld_read w e = read_to at.last (at.weld + n) w w₀ e (omega arith) ∙ read_in
 
   -- it is a node
@@ -57,8 +57,41 @@ module _ (at : Regions) (w₀ : List ℕ) (f : at.weld + at.nodes ≤ at.last) (
       let l : n < length (region at.weld at.nodes w₀) = omega (arith, length-region at.weld at.nodes w₀ (omega arith)) in
       omega (arith, below_at at.nodes (region at.weld at.nodes w₀) n b l, get_or_any (region at.weld at.nodes w₀) n 0 n l)
 
-  pub number_inside : (w : List ℕ) → take at.last w ≡ take at.last w₀ → AllBelow at.nodes (region at.weld at.nodes w₀) → get_or w (at.weld + n) 0 < at.nodes
-  number_inside w e b = omega (arith, weld_read w e, weld_inside b)
+-- ---- the node at the head of a turn
+
+-- the work was w₀ and is w, nothing before the marks has changed, i of the words are passed, and the next is a node
+pub record Head (ws w₀ : List ℕ) (at : Regions) (w : List ℕ) (i : ℕ) : Type 0 where
+  pub sound : Sound ws w₀ at
+  pub here : i < length ws
+  pub long : length w ≡ length w₀
+  pub front : take at.last w ≡ take at.last w₀
+  pub left : AllBelow at.nodes (nodes_in (drop i ws))
+  pub node : get_or ws i 0 ≡ separator → ⊥
+
+module _ {ws w₀ : List ℕ} {at : Regions} {w : List ℕ} {i : ℕ} (t : Head ws w₀ at w i) where
+  -- it and the nodes behind it are nodes
+  pub nodes_below : AllBelow at.nodes (get_or ws i 0 ∷ nodes_in (drop (i + 1) ws))
+  nodes_below = rw (nodes_next ws i t.here t.node) at t.left
+
+  marks_in_work : at.last ≤ length w₀
+  marks_in_work = omega (arith, t.sound.second, t.sound.third)
+
+  -- so is its welded number
+  pub head_inside : weld_in at w₀ (get_or ws i 0) < at.nodes
+  head_inside = weld_inside at w₀ t.sound.first marks_in_work (get_or ws i 0) nodes_below.0 t.sound.welded
+
+  -- which still stands
+  pub head_read : get_or w (at.weld + get_or ws i 0) 0 ≡ weld_in at w₀ (get_or ws i 0)
+  head_read = weld_read at w₀ t.sound.first marks_in_work (get_or ws i 0) nodes_below.0 w t.front
+
+  pub head_numbered : Numbered w at (get_or ws i 0)
+  head_numbered =
+      record {
+        first = t.sound.first;
+        second = omega (arith, t.long, t.sound.second, t.sound.third);
+        node = nodes_below.0;
+        number = omega (arith, head_read, head_inside);
+      }
 
 -- ---- pairs
 
@@ -130,9 +163,6 @@ module _ (at : Regions) (weld : ℕ → ℕ) (w : List ℕ) (n : ℕ) (b : weld 
         let R = hits weld (set (marks_in at w) (weld n) (n + 1)) ns in
         ap₂ (λ (j : ℕ) (m : List ℕ). j + length (hits weld m ns)) count marks_now
         ∙ omega (arith, length-append H R)
-
-    pub turn_length : length v ≡ length w
-    turn_length = ap length stored ∙ length-sets (set w (at.last + weld n) (n + 1)) (at.pairs + 2 * k) (flat H) ∙ length-set w (at.last + weld n) (n + 1)
 
     pub turn_front : take at.last v ≡ take at.last w
     turn_front =

@@ -24,13 +24,8 @@ fn put_pair(work: &mut [u32], o: usize, n: u32, q: u32)
     requires { o + 2 ≤ length work.old }
     ensures { work.new ≡ sets work.old o (flat (pair_of n q ∷ [])) }
 {
-    if n < q {
-        work[o] = n;
-        work[o + 1] = q;
-    } else {
-        work[o] = q;
-        work[o + 1] = n;
-    }
+    work[o] = n.min(q);
+    work[o + 1] = n.max(q);
 }
 
 // Node n, where its welded number's mark is p: its pair, if there is one, goes to o; says how many that are.
@@ -38,10 +33,7 @@ fn put_hit(work: &mut [u32], o: usize, n: u32, p: u32) -> usize
     requires { (o + 2 ≤ length work.old) × (n + 1 < 2 ^ 32) }
     ensures { (result ≡ length (hit n p)) × (work.new ≡ sets work.old o (flat (hit n p))) }
 {
-    if p == 0 {
-        return 0;
-    }
-    if p == n + 1 {
+    if p == 0 || p == n + 1 {
         return 0;
     }
     put_pair(work, o, n, p - 1);
@@ -53,8 +45,7 @@ fn place(work: &[u32], at: Regions, n: u32) -> usize
     requires { Numbered work.now at n }
     ensures { result ≡ place_of at work.now n }
 {
-    let i = at.weld + n as usize;
-    at.last + work[i] as usize
+    at.last + work[at.weld + n as usize] as usize
 }
 
 // Node n, behind k pairs: its pair is put behind them, its mark is put, and there are as many pairs as said.
@@ -74,14 +65,9 @@ fn find_pairs(words: &[u32], work: &mut [u32], at: Regions) -> usize
     ensures { Found words.now work.old work.new at result }
 {
     let mut k = 0;
-    let mut i = 0;
-    while i < words.len() {
-        let n = words[i];
-        if n == mesh::SEPARATOR {
-            i += 1;
-        } else {
-            k = note(work, at, k, n);
-            i += 1;
+    for n in words {
+        if *n != mesh::SEPARATOR {
+            k = note(work, at, k, *n);
         }
     }
     k
@@ -92,15 +78,10 @@ fn forget(words: &[u32], work: &mut [u32], at: Regions)
     requires { Sound words.now work.old at }
     ensures { work.new ≡ sets work.old at.last (mark (weld_in at work.old) (λ n. 0) (marks_in at work.old) (nodes_in words.now)) }
 {
-    let mut i = 0;
-    while i < words.len() {
-        let n = words[i];
-        if n == mesh::SEPARATOR {
-            i += 1;
-        } else {
-            let m = place(work, at, n);
+    for n in words {
+        if *n != mesh::SEPARATOR {
+            let m = place(work, at, *n);
             work[m] = 0;
-            i += 1;
         }
     }
 }

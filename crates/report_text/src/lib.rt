@@ -7,37 +7,13 @@ ghost use Rattle.records.specs.Keeping.{told};
 ghost use Rattle.report.specs.Text.{digits_to, decimal, spaced, line_of, total_line, refused_line, conform, report_text};
 ghost use Rattle.report_text.specs.Stored.{Stored, fields_kept};
 
-// The digit of a number below ten.
-fn digit(n: u64) -> u8
-    requires { n < 10 }
-    ensures { result ≡ 48 + n }
-{
-    48 + n as u8
-}
-
-// The digits of n in base ten, at most k of them: those in front of the last one, then the last one.
-fn put_digits(out: &mut [u8], at: usize, k: usize, n: u64) -> usize
-    requires { at + k ≤ length out.old }
-    ensures { Stored out.old at (digits_to k n []) out.new result × (result ≤ at + k) }
-{
-    if k == 0 {
-        return at;
-    }
-    if n < 10 {
-        out[at] = digit(n);
-        return at + 1;
-    }
-    let p = put_digits(out, at, k - 1, n / 10);
-    out[p] = digit(n % 10);
-    p + 1
-}
-
 // A number in base ten.
 pub fn put_decimal(out: &mut [u8], at: usize, n: u64) -> usize
     requires { at + 20 ≤ length out.old }
     ensures { Stored out.old at (decimal n) out.new result × (result ≤ at + 20) }
 {
-    put_digits(out, at, 20, n)
+    let mut digits = itoa::Buffer::new();
+    put_text(out, at, digits.format(n).as_bytes())
 }
 
 // A text that is at hand.
@@ -45,12 +21,9 @@ fn put_text(out: &mut [u8], at: usize, text: &[u8]) -> usize
     requires { at + length text.now ≤ length out.old }
     ensures { Stored out.old at text.now out.new result }
 {
-    let mut j = 0;
-    while j < text.len() {
-        out[at + j] = text[j];
-        j += 1;
-    }
-    at + j
+    let end = at + text.len();
+    out[at..end].copy_from_slice(text);
+    end
 }
 
 // A space and a number.
@@ -126,11 +99,9 @@ fn put_lines(out: &mut [u8], findings: &[u8], kept: usize) -> usize
     ensures { Stored out.old 0 (each line_of (fields_kept findings.now kept)) out.new result × (result ≤ 128 * kept) }
 {
     let mut p = 0;
-    let mut i = 0;
-    while i < kept {
+    for i in 0..kept {
         let f = records::fields_at(findings, 64 * i);
         p = put_line(out, p, f);
-        i += 1;
     }
     p
 }

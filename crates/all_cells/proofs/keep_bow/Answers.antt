@@ -6,7 +6,7 @@ use native.Mathlib.Omega.{arith}
 use lib.Ieee.{of_bits}
 use Rattle.findings.specs.Findings.{Finding, bowtie}
 use Rattle.index.specs.Faces.{input}
-use Rattle.layout.proofs.Reading.{tables_in, word_is}
+use Rattle.layout.proofs.Reading.{word_is}
 use Rattle.records.specs.Keeping.{Kept}
 use Rattle.records.proofs.Keeping.{kept_none}
 use Rattle.floats.specs.Floats.{zero64}
@@ -14,12 +14,6 @@ use Rattle.layout.specs.ByCell.{plain_rules}
 use Rattle.all_cells.specs.Cells.{KeptEver}
 use Rattle.all_cells.proofs.Passing.{bow_none, bow_one, bow_fields, bow_centre}
 use Rattle.all_cells.proofs.keep_bow.Goals as goal
-
-pub offset_bounds-work-b : goal.offset_bounds-work-b
-offset_bounds-work-b c = omega (arith, tables_in c.args.l c.args.work.now c.requires.faced, c.requires.faced.laid.bows_at, c.requires.c_bound.0)
-
-pub bounds-work-b : goal.bounds-work-b
-bounds-work-b c = omega (arith, tables_in c.args.l c.args.work.now c.requires.faced, c.requires.faced.laid.bows_at, c.requires.c_bound.0)
 
 pub returns-then-work-b-eq0 : goal.returns-then-work-b-eq0
 returns-then-work-b-eq0 c =

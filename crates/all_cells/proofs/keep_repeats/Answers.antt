@@ -26,39 +26,6 @@ loop-c-init c =
       begins = begins_first a.model.now.kinds.now a.model.now.ends.now a.model.now.words.now c.requires.nodes_value.1.order;
     }
 
-pub offset_bounds-model-c : goal.offset_bounds-model-c
-offset_bounds-model-c c = omega (arith, c.requires.nodes_value.1.counted, c.requires.nodes_value.1.paired)
-
-pub bounds-model-c : goal.bounds-model-c
-bounds-model-c c = omega (arith, c.requires.nodes_value.1.counted, c.requires.nodes_value.1.paired)
-
-pub offset_bounds-model-from : goal.offset_bounds-model-from
-offset_bounds-model-from c =
-    let a = c.args in
-    let q = c.requires.nodes_value.1 in
-    let o = c.loop-c in
-    let more : o.c < length a.model.now.kinds.now = omega (arith, q.counted) in
-    let ends = cell_ends a.model.now.kinds.now a.model.now.ends.now a.model.now.words.now o.from o.c o.invariant.begins more q.paired (get_or a.model.now.ends.now o.c 0) refl in
-    omega (arith, ends.0, ends.1)
-
-pub slice_bounds-keep_repeated-count : goal.slice_bounds-keep_repeated-count
-slice_bounds-keep_repeated-count c =
-    let a = c.args in
-    let q = c.requires.nodes_value.1 in
-    let o = c.loop-c in
-    let more : o.c < length a.model.now.kinds.now = omega (arith, q.counted) in
-    let ends = cell_ends a.model.now.kinds.now a.model.now.ends.now a.model.now.words.now o.from o.c o.invariant.begins more q.paired (get_or a.model.now.ends.now o.c 0) refl in
-    omega (arith, ends.0, ends.1)
-
-pub slice_bounds-keep_repeated-start : goal.slice_bounds-keep_repeated-start
-slice_bounds-keep_repeated-start c =
-    let a = c.args in
-    let q = c.requires.nodes_value.1 in
-    let o = c.loop-c in
-    let more : o.c < length a.model.now.kinds.now = omega (arith, q.counted) in
-    let ends = cell_ends a.model.now.kinds.now a.model.now.ends.now a.model.now.words.now o.from o.c o.invariant.begins more q.paired (get_or a.model.now.ends.now o.c 0) refl in
-    omega (arith, ends.0, ends.1)
-
 pub slice_bounds-keep_repeated-end : goal.slice_bounds-keep_repeated-end
 slice_bounds-keep_repeated-end c =
     let a = c.args in

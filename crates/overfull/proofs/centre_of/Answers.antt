@@ -6,36 +6,8 @@ use native.Mathlib.Omega.{arith}
 use lib.ListN.{length}
 use Rattle.geometry.specs.Points.{points_of, centre_of}
 use Rattle.geometry.specs.Steps.{InNodes}
-use Rattle.overfull.proofs.Keys.{key_short, key_nodes, key_fits, key_part}
+use Rattle.overfull.proofs.Keys.{key_short, key_nodes, key_part}
 use Rattle.overfull.proofs.centre_of.Goals as goal
-
-pub offset_bounds-work-a : goal.offset_bounds-work-a
-offset_bounds-work-a c =
-    let a = c.args in
-    let r = c.requires in
-    let f = key_fits a.l a.work.now r.faced a.g r.g_lt_faces.0 c.row.result c.row-2.result c.row.ensures.0 c.row-2.ensures.0 in
-    omega (arith, f, c.well_formed)
-
-pub slice_bounds-key_centroid-count : goal.slice_bounds-key_centroid-count
-slice_bounds-key_centroid-count c =
-    let a = c.args in
-    let r = c.requires in
-    let f = key_fits a.l a.work.now r.faced a.g r.g_lt_faces.0 c.row.result c.row-2.result c.row.ensures.0 c.row-2.ensures.0 in
-    omega (arith, f, c.well_formed)
-
-pub slice_bounds-key_centroid-start : goal.slice_bounds-key_centroid-start
-slice_bounds-key_centroid-start c =
-    let a = c.args in
-    let r = c.requires in
-    let f = key_fits a.l a.work.now r.faced a.g r.g_lt_faces.0 c.row.result c.row-2.result c.row.ensures.0 c.row-2.ensures.0 in
-    omega (arith, f, c.well_formed)
-
-pub slice_bounds-key_centroid-end : goal.slice_bounds-key_centroid-end
-slice_bounds-key_centroid-end c =
-    let a = c.args in
-    let r = c.requires in
-    let f = key_fits a.l a.work.now r.faced a.g r.g_lt_faces.0 c.row.result c.row-2.result c.row.ensures.0 c.row-2.ensures.0 in
-    omega (arith, f, c.well_formed)
 
 pub key_centroid-requires : goal.key_centroid-requires
 key_centroid-requires c =

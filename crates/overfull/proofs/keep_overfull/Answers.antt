@@ -9,9 +9,6 @@ use Rattle.layout.specs.ByCell.{over_face, over_cell}
 use Rattle.overfull.proofs.Keeping.{none_kept, grown_kept, kept_as}
 use Rattle.overfull.proofs.keep_overfull.Goals as goal
 
-pub overflow_add-c : goal.overflow_add-c
-overflow_add-c c = omega (arith, c.requires.c_bound.0, c.requires.standing.spaced.few_cells)
-
 pub first_face-e-requires : goal.first_face-e-requires
 first_face-e-requires c = record { faced = c.requires.standing.faced; c_bound = omega (arith, c.requires.c_bound.0) }
 

@@ -2,46 +2,10 @@
 use mathlib.Core.Path.{ap₂, ◌∙◌}
 use mathlib.Core.List.{List}
 use Prim.Native.Nat.{ℕ}
-use native.Mathlib.Omega.{arith}
 use Rattle.laws.specs.Lists.{eql}
 use Rattle.overfull.specs.Alike.{same_as}
-use Rattle.overfull.proofs.Keys.{key_fits, key_there}
+use Rattle.overfull.proofs.Keys.{key_there}
 use Rattle.overfull.proofs.same_key.Goals as goal
-
-pub overflow_add-k : goal.overflow_add-k
-overflow_add-k c =
-    let a = c.args in
-    let f = key_fits a.l a.work.now c.requires.faced a.g c.requires.g_lt_faces.0 c.row-a.result c.row-b.result c.row-a.ensures.0 c.row-b.ensures.0 in
-    let e = key_fits a.l a.work.now c.requires.faced a.h c.requires.g_lt_faces.1 c.row-c.result c.row-d.result c.row-c.ensures.0 c.row-d.ensures.0 in
-    omega (arith, f, e)
-
-pub overflow_sub-b : goal.overflow_sub-b
-overflow_sub-b c =
-    let a = c.args in
-    let f = key_fits a.l a.work.now c.requires.faced a.g c.requires.g_lt_faces.0 c.row-a.result c.row-b.result c.row-a.ensures.0 c.row-b.ensures.0 in
-    let e = key_fits a.l a.work.now c.requires.faced a.h c.requires.g_lt_faces.1 c.row-c.result c.row-d.result c.row-c.ensures.0 c.row-d.ensures.0 in
-    omega (arith, f, e)
-
-pub overflow_add-k-2 : goal.overflow_add-k-2
-overflow_add-k-2 c =
-    let a = c.args in
-    let f = key_fits a.l a.work.now c.requires.faced a.g c.requires.g_lt_faces.0 c.row-a.result c.row-b.result c.row-a.ensures.0 c.row-b.ensures.0 in
-    let e = key_fits a.l a.work.now c.requires.faced a.h c.requires.g_lt_faces.1 c.row-c.result c.row-d.result c.row-c.ensures.0 c.row-d.ensures.0 in
-    omega (arith, f, e)
-
-pub overflow_sub-d : goal.overflow_sub-d
-overflow_sub-d c =
-    let a = c.args in
-    let f = key_fits a.l a.work.now c.requires.faced a.g c.requires.g_lt_faces.0 c.row-a.result c.row-b.result c.row-a.ensures.0 c.row-b.ensures.0 in
-    let e = key_fits a.l a.work.now c.requires.faced a.h c.requires.g_lt_faces.1 c.row-c.result c.row-d.result c.row-c.ensures.0 c.row-d.ensures.0 in
-    omega (arith, f, e)
-
-pub equal-requires : goal.equal-requires
-equal-requires c =
-    let a = c.args in
-    let f = key_fits a.l a.work.now c.requires.faced a.g c.requires.g_lt_faces.0 c.row-a.result c.row-b.result c.row-a.ensures.0 c.row-b.ensures.0 in
-    let e = key_fits a.l a.work.now c.requires.faced a.h c.requires.g_lt_faces.1 c.row-c.result c.row-d.result c.row-c.ensures.0 c.row-d.ensures.0 in
-    omega (arith, f, e)
 
 pub returns : goal.returns
 unfolding same_as

@@ -18,24 +18,6 @@ loop-i-init c =
     let q = c.requires.c_bound in
     visiting_start a.coords.now a.l a.work.now a.c a.count a.sink.now q.4 q.5 (telling_start a.coords.now a.l a.work.now a.c 0 a.sink.now c.requires.searching)
 
-pub overflow_mul-b : goal.overflow_mul-b
-overflow_mul-b c = omega (arith, c.requires.c_bound.1, c.requires.searching.spaced.few)
-
-pub overflow_add-b : goal.overflow_add-b
-overflow_add-b c =
-    let sp = c.requires.searching.spaced in
-    omega (arith, c.requires.c_bound.1, sp.spare_at, sp.ends)
-
-pub offset_bounds-work-pairs : goal.offset_bounds-work-pairs
-offset_bounds-work-pairs c =
-    let sp = c.requires.searching.spaced in
-    omega (arith, c.requires.c_bound.1, sp.spare_at, sp.ends)
-
-pub bounds-work-pairs : goal.bounds-work-pairs
-bounds-work-pairs c =
-    let sp = c.requires.searching.spaced in
-    omega (arith, c.requires.c_bound.1, sp.spare_at, sp.ends, c.loop-i.auto.work)
-
 pub keep_marked-requires : goal.keep_marked-requires
 keep_marked-requires c =
     let a = c.args in
@@ -48,15 +30,6 @@ keep_marked-requires c =
     let same = v.telling.clearing.same b low (omega arith) in
     let fits : MarkFits a.l o.work b = λ z. let x = q.3 b low (λ e. z (same.0 ∙ e)) in (omega (arith, x.0, same.0), omega (arith, x.1, same.1)) in
     record { searching = v.telling.search; c_bound = (q.0, low, q.2, fits); few = omega (arith, v.telling.few, v.most, c.requires.searching.spaced.few_cells) }
-
-pub overflow_add-next : goal.overflow_add-next
-overflow_add-next c =
-    let a = c.args in
-    let o = c.loop-i in
-    let v = o.invariant in
-    let is = listed_is a.coords.now a.l a.work.now a.c a.count a.sink.now o.work o.sink o.next o.i v in
-    let low = listed_low a.coords.now a.l a.work.now a.c a.count a.sink.now o.work o.sink o.next o.i v _ (omega arith) is in
-    omega (arith, low, c.requires.searching.spaced.few_cells)
 
 pub loop-i-preserved : goal.loop-i-preserved
 loop-i-preserved c =

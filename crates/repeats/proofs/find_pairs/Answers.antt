@@ -1,104 +1,68 @@
 -- What is still to be found and marked, done to what stands here, is all that is found and marked.
-use Prim.Native.Nat.{◌+◌, ◌≤◌, ◌<◌}
-use mathlib.Core.Path.{◌≡◌, refl, sym, ◌∙◌}
-use mathlib.Core.List.{[], ◌∷◌}
+use Prim.Native.Nat.{ℕ, ◌+◌, ◌≤◌, ◌<◌}
+use mathlib.Core.Path.{◌≡◌, sym, ◌∙◌}
+use mathlib.Core.List.{List, []}
 use native.Mathlib.Nat.{add-zero}
 use native.Mathlib.Omega.{arith}
-use borrow.Author.Rules.{rules}
 use lib.ListN.{length, get_or, drop, drop_of_length-le}
-use Rattle.laws.specs.Merging.{AllBelow}
 use Rattle.laws.proofs.Stores.{sets_self}
-use Rattle.mesh.specs.Rings.{nodes_in}
-use Rattle.repeats.specs.Marks.{weld_in, place_of}
-use Rattle.repeats.proofs.Rounds.{nodes_skip, nodes_next, weld_read, weld_inside, number_inside, hit_short, turn_count, turn_length, turn_front, turn_stored}
+use Rattle.mesh.specs.Rings.{separator, nodes_in}
+use Rattle.repeats.specs.declared.Regions.{Regions}
+use Rattle.repeats.specs.Marks.{weld_in, place_of, Noted}
+use Rattle.repeats.proofs.Rounds.{Head, nodes_skip, nodes_next, nodes_below, head_inside, head_read, head_numbered, hit_short, turn_count, turn_front, turn_stored}
+use Rattle.repeats.proofs.find_pairs.Invariants.{Finding}
 use Rattle.repeats.proofs.find_pairs.Goals as goal
+use Rattle.repeats.proofs.find_pairs.Goals.{then-n, else-n}
 
-pub loop-i-init : goal.loop-i-init
-loop-i-init c = (search rules, search rules, refl, refl, c.requires.inside, omega arith, rw (add-zero c.args.at.pairs))
+-- a separator is skipped
+skipped : (ws w₀ : List ℕ) (at : Regions) (w : List ℕ) (k i : ℕ) → i < length ws → get_or ws i 0 ≡ separator → Finding ws w₀ at w k i → Finding ws w₀ at w k (i + 1)
+skipped ws w₀ at w k i h e v = let s = nodes_skip ws i h e in (omega (arith, v.0), v.1, rw s at v.2, rw s at v.3, rw s at v.4)
 
-pub loop-i-preserved-then-n : goal.loop-i-preserved-then-n
-loop-i-preserved-then-n c =
-    let ws = c.args.words.now in
-    let skip = nodes_skip ws c.loop-i.i (omega arith) c.if-n.true in (
-      search rules,
-      search rules,
-      c.loop-i.invariant.2,
-      c.loop-i.invariant.3,
-      rw skip at c.loop-i.invariant.4,
-      rw skip at c.loop-i.invariant.5,
-      rw skip at c.loop-i.invariant.6,
+-- a node's pair and mark are put, and z is what is left then
+noted : (ws w₀ : List ℕ) (at : Regions) (w : List ℕ) (k i : ℕ) (z : List ℕ) (r : ℕ) → Head ws w₀ at w i → Noted w z at k (get_or ws i 0) r → Finding ws w₀ at w k i → Finding ws w₀ at z r (i + 1)
+noted ws w₀ at w k i z r t N v =
+    let n : ℕ = get_or ws i 0 in
+    let ns : List ℕ = nodes_in (drop (i + 1) ws) in
+    let step = nodes_next ws i t.here t.node in
+    let room : at.last + at.nodes ≤ length w = omega (arith, t.long, t.sound.second, t.sound.third) in
+    let b = head_inside t in
+    let q = head_read t in
+    let f = t.sound.second in
+    let W = weld_in at w₀ in (
+      omega (arith, N.count, hit_short n (get_or w (place_of at w n) 0), v.0),
+      turn_front at W w n b room z k r ns f q N ∙ v.1,
+      (nodes_below t).1,
+      turn_count at W w n b room z k r ns f q N ∙ (rw step at v.3),
+      turn_stored at W w n b room z k r ns f q N ∙ (rw step at v.4),
     )
 
 pub note-k-requires : goal.note-k-requires
 note-k-requires c =
-    let below : AllBelow c.args.at.nodes
-    (get_or c.args.words.now c.loop-i.i 0
-    ∷ nodes_in (drop (c.loop-i.i + 1) c.args.words.now)) = let ws = c.args.words.now in
-    rw (nodes_next ws c.loop-i.i (omega arith) c.if-n.false) at c.loop-i.invariant.4 in
-    let a = c.args in
-    let f = c.requires.first in
-    let g : a.at.last ≤ length a.work.now = omega arith in
-    let h = below.0 in
-    record {
-      numbered =
-          record {
-            first = f;
-            second = omega arith;
-            node = h;
-            number =
-                number_inside a.at a.work.now f g (get_or a.words.now c.loop-i.i 0) h c.loop-i.work c.loop-i.invariant.3 c.requires.welded;
-          };
-      second = c.requires.second;
-      third = omega arith;
-      small = c.requires.small;
-    }
+    let at = c.loop-n in
+    let t : Head c.args.words.now c.args.work.now c.args.at at.work at.n-index =
+    record { sound = c.requires; here = c.loop-n-test.true; long = at.auto.work; front = at.invariant.1; left = at.invariant.2; node = c.if-n.true } in
+    record { numbered = head_numbered t; second = c.requires.second; third = omega arith; small = c.requires.small }
 
-pub loop-i-preserved : goal.loop-i-preserved
-loop-i-preserved c =
-    let below : AllBelow c.args.at.nodes
-    (get_or c.args.words.now c.loop-i.i 0
-    ∷ nodes_in (drop (c.loop-i.i + 1) c.args.words.now)) = let ws = c.args.words.now in
-    rw (nodes_next ws c.loop-i.i (omega arith) c.if-n.false) at c.loop-i.invariant.4 in
+pub loop-n-preserved : goal.loop-n-preserved
+loop-n-preserved c =
     let a = c.args in
-    let w₀ = a.work.now in
-    let ws = a.words.now in
-    let i = c.loop-i.i in
-    let n = get_or ws i 0 in
-    let w = c.loop-i.work in
-    let k = c.loop-i.k in
-    let v = c.note-k.new.work in
-    let r = c.note-k.result in
-    let N = c.note-k.ensures in
-    let ns = nodes_in (drop (i + 1) ws) in
-    let g : a.at.last ≤ length w₀ = omega arith in
-    let e : i < length ws = omega arith in
-    let step = nodes_next ws i e c.if-n.false in
-    let h = below in
-    let b = weld_inside a.at w₀ c.requires.first g n h.0 c.requires.welded in
-    let q = weld_read a.at w₀ c.requires.first g n h.0 w c.loop-i.invariant.3 in
-    let l : a.at.last + a.at.nodes ≤ length w = omega arith in
-    let f = c.requires.second in
-    let W = weld_in a.at w₀ in (
-      search rules,
-      omega (arith, N.count, hit_short n (get_or w (place_of a.at w n) 0)),
-      turn_length a.at W w n b l v k r ns f q N ∙ c.loop-i.invariant.2,
-      turn_front a.at W w n b l v k r ns f q N ∙ c.loop-i.invariant.3,
-      h.1,
-      turn_count a.at W w n b l v k r ns f q N ∙ (rw step at c.loop-i.invariant.5),
-      turn_stored a.at W w n b l v k r ns f q N ∙ (rw step at c.loop-i.invariant.6),
-    )
-
-pub shape_of-work : goal.shape_of-work
-shape_of-work c = c.loop-i.invariant.2
+    let at = c.loop-n in
+    elim c.if-n.branch [
+      | then-n b ↦
+          let t : Head a.words.now a.work.now a.at at.work at.n-index =
+          record { sound = c.requires; here = c.loop-n-test.true; long = at.auto.work; front = at.invariant.1; left = at.invariant.2; node = b.if-n.true } in
+          rw (b.work-is, b.k-is) (noted a.words.now a.work.now a.at at.work at.k at.n-index b.note-k.new.work b.note-k.result t b.note-k.ensures at.invariant)
+      | else-n b ↦ rw (b.work-is, b.k-is) (skipped a.words.now a.work.now a.at at.work at.k at.n-index c.loop-n-test.true b.if-n.false at.invariant)
+    ]
 
 pub returns : goal.returns
 returns c =
     let a = c.args in
-    let w = c.loop-i.work in
-    let ws = a.words.now in
-    let done : drop c.loop-i.i ws ≡ [] = drop_of_length-le ws {i = c.loop-i.i} (omega arith) in
+    let at = c.loop-n in
+    let w = at.work in
+    let done : drop at.n-index a.words.now ≡ [] = drop_of_length-le a.words.now {i = at.n-index} (omega arith) in
     record {
-      count = sym (add-zero c.loop-i.k) ∙ (rw done at c.loop-i.invariant.5);
+      count = sym (add-zero at.k) ∙ (rw done at at.invariant.3);
       few = omega arith;
-      stored = sym (sets_self w a.at.last a.at.nodes (omega arith)) ∙ (rw done at c.loop-i.invariant.6);
+      stored = sym (sets_self w a.at.last a.at.nodes (omega arith)) ∙ (rw done at at.invariant.4);
     }

@@ -1,15 +1,21 @@
-use Prim.Native.Nat.{◌+◌, ◌-◌, ◌*◌, ◌≤◌}
+use Prim.Native.Nat.{ℕ, ◌+◌, ◌*◌, ◌≤◌}
 use mathlib.Core.Path.{◌≡◌}
+use mathlib.Core.List.{List}
 use lib.ListN.{length, take, drop}
 use lib.Seq.{sets}
 use Rattle.laws.specs.Merging.{AllBelow}
 use Rattle.pair_sort.specs.Pairs.{flat}
 use Rattle.mesh.specs.Rings.{nodes_in}
+use Rattle.repeats.specs.declared.Regions.{Regions}
 use Rattle.repeats.specs.Marks.{hits, mark, weld_in, marks_in}
 use Rattle.repeats.proofs.find_pairs.Given as goal
 
-abbrev pub invariant-loop-i : goal.invariant-loop-i
-invariant-loop-i l = (l.i ≤ length l.words) × (l.k ≤ l.i) × (length l.work ≡ length l.initial.work) × (take l.at.last l.work ≡ take l.at.last l.initial.work) × AllBelow l.at.nodes (nodes_in (drop l.i l.words)) × (l.k + length (hits (weld_in l.at l.initial.work) (marks_in l.at l.work) (nodes_in (drop l.i l.words))) ≡ length (hits (weld_in l.at l.initial.work) (marks_in l.at l.initial.work) (nodes_in l.words))) × (sets (sets l.work l.at.last (mark (weld_in l.at l.initial.work) (λ n. n + 1) (marks_in l.at l.work) (nodes_in (drop l.i l.words)))) (l.at.pairs + 2 * l.k) (flat (hits (weld_in l.at l.initial.work) (marks_in l.at l.work) (nodes_in (drop l.i l.words)))) ≡ sets (sets l.initial.work l.at.last (mark (weld_in l.at l.initial.work) (λ n. n + 1) (marks_in l.at l.initial.work) (nodes_in l.words))) l.at.pairs (flat (hits (weld_in l.at l.initial.work) (marks_in l.at l.initial.work) (nodes_in l.words))))
+-- the work was w₀ and is w, i of the words are passed, and there are k pairs: what the others give, put behind these, makes the whole
+abbrev pub Finding : List ℕ → List ℕ → Regions → List ℕ → ℕ → ℕ → Type 0
+Finding ws w₀ at w k i = (k ≤ i) × (take at.last w ≡ take at.last w₀) × AllBelow at.nodes (nodes_in (drop i ws))
+    × (k + length (hits (weld_in at w₀) (marks_in at w) (nodes_in (drop i ws))) ≡ length (hits (weld_in at w₀) (marks_in at w₀) (nodes_in ws)))
+    × (sets (sets w at.last (mark (weld_in at w₀) (λ n. n + 1) (marks_in at w) (nodes_in (drop i ws)))) (at.pairs + 2 * k) (flat (hits (weld_in at w₀) (marks_in at w) (nodes_in (drop i ws))))
+    ≡ sets (sets w₀ at.last (mark (weld_in at w₀) (λ n. n + 1) (marks_in at w₀) (nodes_in ws))) at.pairs (flat (hits (weld_in at w₀) (marks_in at w₀) (nodes_in ws))))
 
-abbrev pub decreases-loop-i : goal.decreases-loop-i
-decreases-loop-i l = length l.words - l.i
+abbrev pub invariant-loop-n : goal.invariant-loop-n
+invariant-loop-n l = Finding l.words l.initial.work l.at l.work l.k l.n-index

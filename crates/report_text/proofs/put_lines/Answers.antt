@@ -1,6 +1,5 @@
 -- `report_text::put_lines` meets its contract. The invariant: the lines of the first i records are stored.
 use Prim.Native.Nat.{ℕ}
-use borrow.Author.Rules.{rules}
 use mathlib.Core.Path.{◌≡◌, refl, subst}
 use native.Mathlib.Omega.{arith}
 use Rattle.laws.specs.Lists.{each}
@@ -11,23 +10,21 @@ use Rattle.report_text.proofs.Reports.{line_next}
 use Rattle.report_text.proofs.put_lines.Goals as goal
 
 pub loop-i-init : goal.loop-i-init
-loop-i-init c = (omega arith, omega arith, refl, (refl, refl))
+loop-i-init c = record { few = omega arith; stored = (refl, refl) }
 
 pub loop-i-preserved : goal.loop-i-preserved
 loop-i-preserved c =
     let a = c.args in
+    let o = c.loop-i in
     let line = c.put_line-p in
-    let f = c.fields_at-f in (
-      omega arith,
-      omega (arith, line.ensures.1, c.loop-i.invariant.1),
-      search rules,
-      line_next a.findings.now a.out.now c.loop-i.out line.new.out c.loop-i.i c.loop-i.p line.result (told f.result) f.ensures c.loop-i.invariant.3 line.ensures.0,
-    )
+    let f = c.fields_at-f in record {
+      few = omega (arith, line.ensures.1, o.invariant.few);
+      stored = line_next a.findings.now a.out.now o.out line.new.out o.i o.p line.result (told f.result) f.ensures o.invariant.stored line.ensures.0;
+    }
 
 pub returns : goal.returns
 returns c =
     let a = c.args in
-    let e : c.loop-i.i ≡ a.kept = omega (arith, c.loop-i.invariant.0, c.loop-i-test.false) in (
-      subst (λ (n : ℕ). Stored a.out.now 0 (each line_of (fields_kept a.findings.now n)) c.loop-i.out c.loop-i.p) e c.loop-i.invariant.3,
-      omega (arith, c.loop-i.invariant.1, e),
-    )
+    let o = c.loop-i in
+    let e : o.i ≡ a.kept = omega arith in
+    (subst (λ (n : ℕ). Stored a.out.now 0 (each line_of (fields_kept a.findings.now n)) o.out o.p) e o.invariant.stored, omega (arith, o.invariant.few, e))

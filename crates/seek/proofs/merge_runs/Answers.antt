@@ -6,14 +6,14 @@ use native.Mathlib.Omega.{arith}
 use native.Mathlib.Numerals.{add-one}
 use native.Mathlib.Nat.{zero-add}
 use lib.ListN.{length, length-append}
-use lib.Seq.{sets, length-sets, length-take-le}
+use lib.Seq.{sets}
 use Rattle.laws.specs.Lists.{keep, up_from}
 use Rattle.laws.proofs.Ascending.{keep_skip}
 use Rattle.laws.proofs.Stores.{sets_append}
 use Rattle.laws.proofs.ListLaws.{keep_append, up_from_snoc}
 use Rattle.index.specs.declared.Places.{Places}
 use Rattle.index.specs.Faces.{input, base}
-use Rattle.merge.specs.Runs.{Ends, Lowest}
+use Rattle.merge.specs.Runs.{Lowest}
 use Rattle.seek.specs.Steps.{Runs, Begun, one, up_to}
 use Rattle.seek.specs.Candidates.{shares, candidates, Ready}
 use Rattle.seek.proofs.Merging.{no_lower, skipped, lowered}
@@ -47,9 +47,9 @@ same_base : (p : Places) (w : List ℕ) (lo k g n : ℕ) (from to v : List ℕ) 
 same_base p w lo k g n from to v held = ap (base p) held.work ∙ base_same p w (up_to p (input p w) lo g)
 
 -- g taken
-took : (p : Places) (w : List ℕ) (lo k g n : ℕ) (from to v : List ℕ) → Ready p lo w → Held p w lo k g n from to v → g < p.faces → (r : ℕ) (from' v' : List ℕ)
-    → r ≡ n + length (one p (input p v) lo g) → v' ≡ sets v (p.found + n) (one p (input p v) lo g) → Runs p (base p v) lo k (g + 1) from' to → Held p w lo k (g + 1) r from' to v'
-took p w lo k g n from to v ready held h r from' v' a b c =
+took : (p : Places) (w : List ℕ) (lo k g n : ℕ) (from to v : List ℕ) → Ready p lo w → Held p w lo k g n from to v → g < p.faces → (r k' : ℕ) (from' to' v' : List ℕ)
+    → r ≡ n + length (one p (input p v) lo g) → v' ≡ sets v (p.found + n) (one p (input p v) lo g) → Runs p (base p v) lo k' (g + 1) from' to' → Held p w lo k' (g + 1) r from' to' v'
+took p w lo k g n from to v ready held h r k' from' to' v' a b c =
     let i : input p v ≡ input p w = ap (input p) held.work ∙ input_same p w (up_to p (input p w) lo g) ready.below in
     let o = one p (input p w) lo g in
     record {
@@ -57,7 +57,7 @@ took p w lo k g n from to v ready held h r from' v' a b c =
       work = b ∙ ap (λ (t : List ℕ). sets v (p.found + n) (one p t lo g)) i ∙ ap₂ (λ (l : List ℕ) (m : ℕ). sets l (p.found + m) o) held.work held.number
           ∙ sym (sets_append w p.found (up_to p (input p w) lo g) o) ∙ ap (sets w p.found) (next_one p (input p w) lo g);
       number = a ∙ ap₂ (λ (m : ℕ) (t : List ℕ). m + length (one p t lo g)) held.number i ∙ sym (length-append (up_to p (input p w) lo g) o) ∙ ap length (next_one p (input p w) lo g);
-      runs = subst (λ (l : List ℕ). Runs p l lo k (g + 1) from' to) (same_base p w lo k g n from to v held) c;
+      runs = subst (λ (l : List ℕ). Runs p l lo k' (g + 1) from' to') (same_base p w lo k g n from to v held) c;
     }
 
 -- nothing is noted at the start
@@ -66,98 +66,59 @@ begin p w lo k from to b =
     let e = none_before p (input p w) lo b.first b.hidden in
     record { top = b.top; work = ap (sets w p.found) e; number = ap length e; runs = b.runs }
 
--- the length stays
-longer : (p : Places) (w : List ℕ) (lo k g n : ℕ) (from to v : List ℕ) → Ready p lo w → Held p w lo k g n from to v → p.found ≤ length v
-longer p w lo k g n from to v ready held = omega (arith, ready.room, ap length held.work ∙ length-sets w p.found (up_to p (input p w) lo g))
-
 -- on to the lowest face, found in what is there now
 onward : (p : Places) (w : List ℕ) (lo k g n : ℕ) (from to v : List ℕ) → Ready p lo w → Held p w lo k g n from to v → (g' : ℕ) → Lowest k (base p v) from to p.faces g'
     → (g ≤ g') × Held p w lo k g' n from to v
 onward p w lo k g n from to v ready held g' low =
     moved_on p w lo k g n from to v ready held g' (subst (λ (x : List ℕ). Lowest k x from to p.faces g') (same_base p w lo k g n from to v held) low)
 
-pub slice_bounds-lowest-end-2 : goal.slice_bounds-lowest-end-2
-slice_bounds-lowest-end-2 c =
-    let a = c.args in sym (length-take-le a.at.found a.work.now (omega (arith, c.requires.ready.room)))
-
-pub lowest-g-requires : goal.lowest-g-requires
-lowest-g-requires c = c.requires.begun.runs.ends
-
 pub loop-g-init : goal.loop-g-init
 loop-g-init c =
     let a = c.args in
-    (moved_on a.at a.work.now a.lo a.k c.requires.begun.first 0 a.from.now a.to.now a.work.now c.requires.ready (begin a.at a.work.now a.lo a.k a.from.now a.to.now c.requires.begun) c.lowest-g.result c.lowest-g.ensures).1
+    let m = a.runs.now in
+    (moved_on a.at a.work.now a.lo m.count c.requires.begun.first 0 m.from m.to a.work.now c.requires.ready (begin a.at a.work.now a.lo m.count m.from m.to c.requires.begun) c.lowest-g.result c.lowest-g.ensures).1
 
-pub take_face-n-requires : goal.take_face-n-requires
-take_face-n-requires c =
+pub take_face-n-requires-clause-ready : goal.take_face-n-requires-clause-ready
+take_face-n-requires-clause-ready c =
     let a = c.args in
     let l = c.loop-g in
-    let ready = c.requires.ready in
-    record {
-      ready = subst (Ready a.at a.lo) (sym l.invariant.work) (ready_same a.at a.lo a.work.now (up_to a.at (input a.at a.work.now) a.lo l.g) ready);
-      g_lt_faces = (c.loop-g-test.true, omega (arith, c.loop-g-test.true, l.invariant.number, up_to-length a.at (input a.at a.work.now) a.lo l.g));
-      runs = subst (λ (x : List ℕ). Runs a.at x a.lo a.k l.g l.from a.to.now) (sym (same_base a.at a.work.now a.lo a.k l.g l.n l.from a.to.now l.work l.invariant)) l.invariant.runs;
-    }
+    subst (Ready a.at a.lo) (sym l.invariant.work) (ready_same a.at a.lo a.work.now (up_to a.at (input a.at a.work.now) a.lo l.g) c.requires.ready)
 
-pub slice_bounds-lowest-end-in-loop-g : goal.slice_bounds-lowest-end-in-loop-g
-slice_bounds-lowest-end-in-loop-g c =
+pub take_face-n-requires-clause-g_lt_faces : goal.take_face-n-requires-clause-g_lt_faces
+take_face-n-requires-clause-g_lt_faces c =
     let a = c.args in
     let l = c.loop-g in
-    let f = c.take_face-n in
-    let e = f.ensures in
-    let taken =
-    took a.at a.work.now a.lo a.k l.g l.n l.from a.to.now l.work c.requires.ready l.invariant c.loop-g-test.true
-    f.result f.new.from f.new.work e.value e.work_after e.runs_2 in
-    longer a.at a.work.now a.lo a.k (l.g + 1) f.result f.new.from a.to.now f.new.work c.requires.ready taken
+    (c.loop-g-test.true, omega (arith, c.loop-g-test.true, l.invariant.number, up_to-length a.at (input a.at a.work.now) a.lo l.g))
 
-pub slice_bounds-lowest-end-in-loop-g-2 : goal.slice_bounds-lowest-end-in-loop-g-2
-slice_bounds-lowest-end-in-loop-g-2 c =
+pub take_face-n-requires-clause-runs : goal.take_face-n-requires-clause-runs
+take_face-n-requires-clause-runs c =
     let a = c.args in
     let l = c.loop-g in
-    let f = c.take_face-n in
-    let e = f.ensures in
-    let taken =
-    took a.at a.work.now a.lo a.k l.g l.n l.from a.to.now l.work c.requires.ready l.invariant c.loop-g-test.true
-    f.result f.new.from f.new.work e.value e.work_after e.runs_2 in
-    sym (length-take-le a.at.found f.new.work (longer a.at a.work.now a.lo a.k (l.g + 1) f.result f.new.from a.to.now f.new.work c.requires.ready taken))
-
-pub lowest-g-requires-in-loop-g : goal.lowest-g-requires-in-loop-g
-lowest-g-requires-in-loop-g c =
-    let a = c.args in
-    let l = c.loop-g in
-    let f = c.take_face-n in
-    let e = f.ensures in
-    let taken =
-    took a.at a.work.now a.lo a.k l.g l.n l.from a.to.now l.work c.requires.ready l.invariant c.loop-g-test.true
-    f.result f.new.from f.new.work e.value e.work_after e.runs_2 in
-    subst (Ends a.k a.to.now) (sym (same_base a.at a.work.now a.lo a.k (l.g + 1) f.result f.new.from a.to.now f.new.work taken)) taken.runs.ends
+    let m = l.runs in
+    subst (λ (x : List ℕ). Runs a.at x a.lo m.count l.g m.from m.to) (sym (same_base a.at a.work.now a.lo m.count l.g l.n m.from m.to l.work l.invariant)) l.invariant.runs
 
 pub loop-g-smaller : goal.loop-g-smaller
 loop-g-smaller c =
     let a = c.args in
     let l = c.loop-g in
+    let m = l.runs in
     let f = c.take_face-n in
+    let t = f.new.runs in
     let e = f.ensures in
-    let taken =
-    took a.at a.work.now a.lo a.k l.g l.n l.from a.to.now l.work c.requires.ready l.invariant c.loop-g-test.true
-    f.result f.new.from f.new.work e.value e.work_after e.runs_2 in
-    let o = onward a.at a.work.now a.lo a.k (l.g + 1) f.result f.new.from a.to.now f.new.work c.requires.ready taken c.lowest-g-in-loop-g.result c.lowest-g-in-loop-g.ensures in
+    let taken = took a.at a.work.now a.lo m.count l.g l.n m.from m.to l.work c.requires.ready l.invariant c.loop-g-test.true f.result t.count t.from t.to f.new.work e.value e.work_after e.runs_2 in
+    let o = onward a.at a.work.now a.lo t.count (l.g + 1) f.result t.from t.to f.new.work c.requires.ready taken c.lowest-g-in-loop-g.result c.lowest-g-in-loop-g.ensures in
     omega (arith, o.0, o.1.top, c.loop-g-test.true)
 
 pub loop-g-preserved : goal.loop-g-preserved
 loop-g-preserved c =
     let a = c.args in
     let l = c.loop-g in
+    let m = l.runs in
     let f = c.take_face-n in
+    let t = f.new.runs in
     let e = f.ensures in
-    let taken =
-    took a.at a.work.now a.lo a.k l.g l.n l.from a.to.now l.work c.requires.ready l.invariant c.loop-g-test.true
-    f.result f.new.from f.new.work e.value e.work_after e.runs_2 in
-    (onward a.at a.work.now a.lo a.k (l.g + 1) f.result f.new.from a.to.now f.new.work c.requires.ready taken c.lowest-g-in-loop-g.result c.lowest-g-in-loop-g.ensures).1
-
-pub shape_of-work : goal.shape_of-work
-shape_of-work c =
-    let a = c.args in let l = c.loop-g in ap length l.invariant.work ∙ length-sets a.work.now a.at.found (up_to a.at (input a.at a.work.now) a.lo l.g)
+    let taken = took a.at a.work.now a.lo m.count l.g l.n m.from m.to l.work c.requires.ready l.invariant c.loop-g-test.true f.result t.count t.from t.to f.new.work e.value e.work_after e.runs_2 in
+    (onward a.at a.work.now a.lo t.count (l.g + 1) f.result t.from t.to f.new.work c.requires.ready taken c.lowest-g-in-loop-g.result c.lowest-g-in-loop-g.ensures).1
 
 pub returns : goal.returns
 unfolding candidates

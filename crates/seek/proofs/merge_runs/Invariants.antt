@@ -16,7 +16,7 @@ pub record Held (p : Places) (w : List ℕ) (lo k g n : ℕ) (from to v : List �
   pub runs : Runs p (base p w) lo k g from to
 
 abbrev pub invariant-loop-g : goal.invariant-loop-g
-invariant-loop-g l = Held l.at l.initial.work l.lo l.k l.g l.n l.from l.to l.work
+invariant-loop-g l = Held l.at l.initial.work l.lo l.runs.count l.g l.n l.runs.from l.runs.to l.work
 
 abbrev pub decreases-loop-g : goal.decreases-loop-g
 decreases-loop-g l = l.at.faces - l.g

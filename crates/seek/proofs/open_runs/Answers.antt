@@ -42,7 +42,7 @@ returns-clause-from_after c =
     let i = a.ix.now in
     let u = c.set_start-s in
     let v = c.set_size-k in
-    c.places.ensures ∙ ap (sets a.from.now 0) (the_places i.at i.base.now i.indexed a.lo c.requires u.result v.result u.ensures v.ensures i.at.offsets 0 (omega arith) (omega arith) ∙ no_more i.at.index (words_of i.at (input_of i)) (set_of i a.lo))
+    c.places.ensures ∙ ap (sets a.runs.now.from 0) (the_places i.at i.base.now i.indexed a.lo c.requires u.result v.result u.ensures v.ensures i.at.offsets 0 (omega arith) (omega arith) ∙ no_more i.at.index (words_of i.at (input_of i)) (set_of i a.lo))
 
 pub returns-clause-to_after : goal.returns-clause-to_after
 returns-clause-to_after c =
@@ -50,4 +50,4 @@ returns-clause-to_after c =
     let i = a.ix.now in
     let u = c.set_start-s in
     let v = c.set_size-k in
-    c.places-2.ensures ∙ ap (sets a.to.now 0) (the_places i.at i.base.now i.indexed a.lo c.requires u.result v.result u.ensures v.ensures (i.at.offsets + 1) 1 (omega arith) refl)
+    c.places-2.ensures ∙ ap (sets a.runs.now.to 0) (the_places i.at i.base.now i.indexed a.lo c.requires u.result v.result u.ensures v.ensures (i.at.offsets + 1) 1 (omega arith) refl)

@@ -36,26 +36,33 @@ pub skip_runs-requires-clause-ends : goal.skip_runs-requires-clause-ends
 skip_runs-requires-clause-ends c =
     let a = c.args in
     let ready = c.requires.ready in
-    let o = c.open_runs-k in
-    (opened_at a.at (base a.at a.work.now) ready.indexed a.lo ready.face o.result o.new.from o.new.to o.ensures.value o.ensures.from_after o.ensures.to_after).ends
+    let m = c.open_runs.new.runs in
+    let e = c.open_runs.ensures in
+    (opened_at a.at (base a.at a.work.now) ready.indexed a.lo ready.face m.count m.from m.to e.count_after e.from_after e.to_after).ends
 
-pub skip_runs-requires-clause-from_len : goal.skip_runs-requires-clause-from_len
-skip_runs-requires-clause-from_len c =
+pub skip_runs-requires-clause-rising : goal.skip_runs-requires-clause-rising
+skip_runs-requires-clause-rising c =
     let a = c.args in
     let ready = c.requires.ready in
-    let o = c.open_runs-k in
-    let r = opened_at a.at (base a.at a.work.now) ready.indexed a.lo ready.face o.result o.new.from o.new.to o.ensures.value o.ensures.from_after o.ensures.to_after in
-    (r.wide, all_rising a.at (base a.at a.work.now) a.lo o.result o.new.from o.new.to 0 r)
+    let m = c.open_runs.new.runs in
+    let e = c.open_runs.ensures in
+    let b = base a.at a.work.now in
+    all_rising a.at b a.lo m.count m.from m.to 0 (opened_at a.at b ready.indexed a.lo ready.face m.count m.from m.to e.count_after e.from_after e.to_after)
 
-pub merge_runs-n-requires-clause-begun : goal.merge_runs-n-requires-clause-begun
-merge_runs-n-requires-clause-begun c =
+pub merge_runs-requires-clause-begun : goal.merge_runs-requires-clause-begun
+merge_runs-requires-clause-begun c =
     let a = c.args in
     let q = c.requires in
-    let o = c.open_runs-k in
-    let r = opened_at a.at (base a.at a.work.now) q.ready.indexed a.lo q.ready.face o.result o.new.from o.new.to o.ensures.value o.ensures.from_after o.ensures.to_after in
+    let m = c.open_runs.new.runs in
+    let e = c.open_runs.ensures in
+    let b = base a.at a.work.now in
+    let s = c.skip_runs in
+    let open_at = opened_at a.at b q.ready.indexed a.lo q.ready.face m.count m.from m.to e.count_after e.from_after e.to_after in
     record {
       first = a.end;
       top = q.end_le_faces.0;
       hidden = q.end_le_faces.1;
-      runs = runs_from a.at (base a.at a.work.now) a.lo o.result o.new.from o.new.to a.end c.skip_runs.new.from r c.skip_runs.ensures;
+      runs = subst (λ (k : ℕ). Runs a.at b a.lo k a.end s.new.runs.from s.new.runs.to) (sym s.ensures.others.0)
+          (subst (λ (l : List ℕ). Runs a.at b a.lo m.count a.end s.new.runs.from l) (sym s.ensures.others.1)
+          (runs_from a.at b a.lo m.count m.from m.to a.end s.new.runs.from open_at s.ensures.passed));
     }

@@ -1,11 +1,12 @@
 -- `partially_shared::noting::note` meets its contract.
-use Prim.Native.Nat.{ℕ, ◌+◌, ◌<◌}
+use Prim.Native.Nat.{ℕ, ◌+◌, ◌<◌, min, max}
 use mathlib.Core.List.{List, [], ◌∷◌, ◌++◌}
-use mathlib.Core.Path.{sym, ap, ◌∙◌, subst}
+use mathlib.Core.Path.{◌≡◌, sym, ap, ◌∙◌, subst}
 use native.Mathlib.Omega.{arith}
 use lib.ListN.{get_or}
 use Rattle.index.specs.Faces.{input}
 use Rattle.layout.specs.ByCell.{plain_rules}
+use Rattle.partially_shared.specs.declared.Range.{Range}
 use Rattle.partially_shared.specs.Listing.{list_with}
 use Rattle.partially_shared.specs.Hits.{passing, Marked, MarkedMore, Beside}
 use Rattle.partially_shared.proofs.Marking.{spans_is, beside_self, marked_out, marked_kept, marked_in, noted_beside}
@@ -49,11 +50,13 @@ returns c =
     let y = c.list_cell-count in
     let m = y.ensures.1 ∙ ap (list_with a.l i a.r.count) c.mark.ensures in
     let z = c.if-work-m-ne0.false in
-    let d = c.widen.ensures in
-    let more : MarkedMore a.l t (passing R a.l t a.f (a.g ∷ [])) w y.new.work a.r c.widen.result =
-    λ hits p. subst (λ (v : List ℕ). Marked a.l t (hits ++ passing R a.l t a.f (a.g ∷ [])) v c.widen.result) (sym m)
-    (marked_in R a.l t a.f a.g hits w a.r p sp i e.0 e.1 c.widen.result z yes (d.0, d.1, d.2, d.3 ∙ y.ensures.0)) in
+    let lo : c.min.result ≡ min a.r.lo i = omega (arith, c.min.ensures) in
+    let hi : c.max.result ≡ max a.r.hi (i + 1) = omega (arith, c.max.ensures) in
+    let range : Range = record { lo = c.min.result; hi = c.max.result; count = y.result } in
+    let more : MarkedMore a.l t (passing R a.l t a.f (a.g ∷ [])) w y.new.work a.r range =
+    λ hits p. subst (λ (v : List ℕ). Marked a.l t (hits ++ passing R a.l t a.f (a.g ∷ [])) v range) (sym m)
+    (marked_in R a.l t a.f a.g hits w a.r p sp i e.0 e.1 range z yes lo hi y.ensures.0) in
     record {
       marked_more = more;
-      beside = (subst (Beside a.l.marks a.l w) (sym m) (noted_beside a.l w i a.r.count (a.f + 1) a.g sp e.1), d.2.least a.l.at.cell_count c.requires.f_lt_faces.3 (omega (arith, e.1)));
+      beside = (subst (Beside a.l.marks a.l w) (sym m) (noted_beside a.l w i a.r.count (a.f + 1) a.g sp e.1), omega (arith, hi, e.1, c.requires.f_lt_faces.3));
     }

@@ -1,5 +1,4 @@
 -- `partially_shared::noting::note_found` meets its contract.
-use mathlib.Core.Path.{◌∙◌}
 use native.Mathlib.Omega.{arith}
 use Rattle.index.specs.Faces.{input}
 use Rattle.layout.specs.ByCell.{plain_rules}
@@ -9,65 +8,44 @@ use Rattle.partially_shared.proofs.noting.note_found.Goals as goal
 pub loop-i-init : goal.loop-i-init
 loop-i-init c =
     let a = c.args in
-    (noting_start (plain_rules a.coords.now a.tol) a.l a.f a.work.now a.r c.requires.searching c.requires.f_lt_faces.2, omega arith, omega arith)
+    noting_start (plain_rules a.coords.now a.tol) a.l a.f a.work.now a.r c.requires.searching c.requires.f_lt_faces.2
 
-pub overflow_add-found : goal.overflow_add-found
-overflow_add-found c =
+pub bounds-work-l : goal.bounds-work-l
+bounds-work-l c =
     let a = c.args in
     let few = candidates_few a.l.at (input a.l.at a.work.now) a.f in
     let sp = c.requires.searching.spaced in
-    omega (arith, sp.marks_at, sp.others_at, sp.last_at, sp.pairs_at, sp.spare_at, sp.ends, few, c.requires.f_lt_faces.3, c.loop-i-test.true)
-
-pub offset_bounds-work-found : goal.offset_bounds-work-found
-offset_bounds-work-found c =
-    let a = c.args in
-    let few = candidates_few a.l.at (input a.l.at a.work.now) a.f in
-    let sp = c.requires.searching.spaced in
-    omega (arith, sp.marks_at, sp.others_at, sp.last_at, sp.pairs_at, sp.spare_at, sp.ends, few, c.requires.f_lt_faces.3, c.loop-i-test.true)
-
-pub bounds-work-found : goal.bounds-work-found
-bounds-work-found c =
-    let a = c.args in
-    let few = candidates_few a.l.at (input a.l.at a.work.now) a.f in
-    let sp = c.requires.searching.spaced in
-    omega (arith, sp.marks_at, sp.others_at, sp.last_at, sp.pairs_at, sp.spare_at, sp.ends, few, c.requires.f_lt_faces.3, c.loop-i-test.true, c.loop-i.invariant.1)
+    omega (arith, sp.marks_at, sp.others_at, sp.last_at, sp.pairs_at, sp.spare_at, sp.ends, few, c.requires.f_lt_faces.3, c.loop-i.auto.work)
 
 pub note-s-requires : goal.note-s-requires
 note-s-requires c =
     let a = c.args in
     let few = candidates_few a.l.at (input a.l.at a.work.now) a.f in
-    let sp = c.requires.searching.spaced in
     let o = c.loop-i in
-    let h = c.loop-i-test.true in
     let R = plain_rules a.coords.now a.tol in
-    let e = next_is R a.l a.f a.work.now a.r c.requires.searching a.n o.work o.s o.i o.invariant.0 c.requires.f_lt_faces.3 (omega (arith, few, c.requires.f_lt_faces.3)) c.requires.f_lt_faces.4 h in
-    let low = candidate_low a.l.at (input a.l.at a.work.now) a.f o.i (omega (arith, h, c.requires.f_lt_faces.3)) in
+    let e = next_is R a.l a.f a.work.now a.r c.requires.searching a.n o.work o.s o.i o.invariant c.requires.f_lt_faces.3 (omega (arith, few, c.requires.f_lt_faces.3)) c.requires.f_lt_faces.4 (omega arith) in
+    let low = candidate_low a.l.at (input a.l.at a.work.now) a.f o.i (omega (arith, c.requires.f_lt_faces.3)) in
     record {
-      searching = o.invariant.0.search;
-      f_lt_faces = (c.requires.f_lt_faces.0, omega (arith, low, c.wide-g.ensures, e), c.requires.f_lt_faces.1, o.invariant.0.high);
+      searching = o.invariant.search;
+      f_lt_faces = (c.requires.f_lt_faces.0, omega (arith, low, e), c.requires.f_lt_faces.1, o.invariant.high);
     }
 
 pub loop-i-preserved : goal.loop-i-preserved
 loop-i-preserved c =
     let a = c.args in
     let few = candidates_few a.l.at (input a.l.at a.work.now) a.f in
-    let sp = c.requires.searching.spaced in
     let o = c.loop-i in
-    let h = c.loop-i-test.true in
     let R = plain_rules a.coords.now a.tol in
-    let e = c.wide-g.ensures ∙ next_is R a.l a.f a.work.now a.r c.requires.searching a.n o.work o.s o.i o.invariant.0 c.requires.f_lt_faces.3 (omega (arith, few, c.requires.f_lt_faces.3)) c.requires.f_lt_faces.4 h in
+    let e = next_is R a.l a.f a.work.now a.r c.requires.searching a.n o.work o.s o.i o.invariant c.requires.f_lt_faces.3 (omega (arith, few, c.requires.f_lt_faces.3)) c.requires.f_lt_faces.4 (omega arith) in
     let y = c.note-s.ensures in
-    let next = noting_next R a.l a.f a.work.now a.r c.requires.searching o.work _ o.s _ o.i _ o.invariant.0 (omega (arith, h, c.requires.f_lt_faces.3)) e y.marked_more y.beside.0 y.beside.1 in
-    (next, next.beside.long, omega (arith, h))
+    noting_next R a.l a.f a.work.now a.r c.requires.searching o.work _ o.s _ o.i _ o.invariant (omega (arith, c.requires.f_lt_faces.3)) e y.marked_more y.beside.0 y.beside.1
 
 pub returns : goal.returns
 returns c =
     let a = c.args in
-    let few = candidates_few a.l.at (input a.l.at a.work.now) a.f in
-    let sp = c.requires.searching.spaced in
     let o = c.loop-i in
     let t = input a.l.at a.work.now in
     record {
-      marked_more = more_all (plain_rules a.coords.now a.tol) a.l t a.f o.i a.work.now o.work a.r o.s (omega (arith, c.requires.f_lt_faces.3, c.loop-i-test.false)) o.invariant.0.more;
-      beside = (o.invariant.0.beside, o.invariant.0.high);
+      marked_more = more_all (plain_rules a.coords.now a.tol) a.l t a.f o.i a.work.now o.work a.r o.s (omega (arith, c.requires.f_lt_faces.3)) o.invariant.more;
+      beside = (o.invariant.beside, o.invariant.high);
     }

@@ -1,12 +1,6 @@
-use Prim.Native.Nat.{◌-◌, ◌≤◌}
-use mathlib.Core.Path.{◌≡◌}
-use lib.ListN.{length}
 use Rattle.layout.specs.ByCell.{plain_rules}
 use Rattle.partially_shared.proofs.Searched.{Noting}
 use Rattle.partially_shared.proofs.noting.note_found.Given as goal
 
 abbrev pub invariant-loop-i : goal.invariant-loop-i
-invariant-loop-i l = Noting (plain_rules l.coords l.tol) l.l l.f l.initial.work l.initial.s l.work l.s l.i × (length l.work ≡ length l.initial.work) × (l.i ≤ l.n)
-
-abbrev pub decreases-loop-i : goal.decreases-loop-i
-decreases-loop-i l = l.n - l.i
+invariant-loop-i l = Noting (plain_rules l.coords l.tol) l.l l.f l.initial.work l.initial.s l.work l.s l.i

@@ -1,5 +1,0 @@
--- The digits asked for fall at each call.
-use Rattle.report_text.proofs.+put_digits.Given as goal
-
-abbrev pub decreases-put_digits : goal.decreases-put_digits
-decreases-put_digits l = l.k
