@@ -11,8 +11,8 @@ fn answer(test: &[u8], n: usize, k: usize) -> Result<Area, Refusal>
 {
     let mut coords = [0.0f64; 192];
     let mut nodes = [0u32; 64];
-    test_support::read_coords(test, 16, &mut coords, 3 * n);
-    test_support::read_words(test, 16 + 24 * n, &mut nodes, k);
+    test_support::read(&test[16..], &mut coords[..3 * n]);
+    test_support::read(&test[16 + 24 * n..], &mut nodes[..k]);
     area::area_test(&coords[0..3 * n], &nodes[0..k], floats::le_f64(test, 8))
 }
 

@@ -39,7 +39,9 @@ fn run_all(s: &[u8]) -> Tally
 // The roots of data/.
 pub fn run<R: Files + Print>(rt: &R) -> io::Result<()> {
     let mut buffer = [0u8; 65536];
-    let n = test_support::read_file(rt, b"roots", &mut buffer).size;
-    let t = run_all(&buffer[..n]);
+    let t = match test_support::read_file(rt, b"roots", &mut buffer) {
+        Some(list) => run_all(list),
+        None => run_all(&[]),
+    };
     println!(rt; "roots {} agree {}", t.run, t.agree)
 }

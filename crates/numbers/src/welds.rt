@@ -24,8 +24,8 @@ fn welds_so(set: &[u8], n: usize, k: usize) -> bool
     let mut words = [0u32; 10240];
     let mut map = [0u32; 10000];
     let mut scratch = [0u32; 30000];
-    test_support::read_coords(set, 16, &mut coords, 3 * n);
-    test_support::read_words(set, 16 + 24 * n, &mut words, k);
+    test_support::read(&set[16..], &mut coords[..3 * n]);
+    test_support::read(&set[16 + 24 * n..], &mut words[..k]);
     let kinds = [4u8; 1];
     let ends = [k as u32; 1];
     let model = Model {

@@ -2,21 +2,14 @@
 ghost use Rattle.std.specs.Prelude.{◌≤◌};
 
 use crate::nodes;
-use area::AreaAnswer;
-use mesh::{Checks, Counted, RingList};
+use mesh::RingList;
 use std::io;
-
-fn wide(x: u32) -> u64 {
-    x as u64
-}
 
 // A line: a name and words.
 fn list(rt: &impl Print, name: &[u8], words: &[u32]) -> io::Result<()> {
     test_support::say(rt, name)?;
-    let mut i = 0;
-    while i < words.len() {
-        test_support::say_number(rt, b" ", wide(words[i]))?;
-        i += 1;
+    for word in words {
+        print!(rt; " {word}")?;
     }
     test_support::say(rt, b"\n")
 }
@@ -24,62 +17,14 @@ fn list(rt: &impl Print, name: &[u8], words: &[u32]) -> io::Result<()> {
 // ---- the ring lookup
 
 // A raw ring list, one word too long.
-fn raw_list() -> [u32; 13] {
-    [
-        101, 102, 103, 104, 105, 106, 107, 108, 109, 110, 111, 112, 113,
-    ]
-}
+const RAW: [u32; 13] = [
+    101, 102, 103, 104, 105, 106, 107, 108, 109, 110, 111, 112, 113,
+];
 
 // A welded ring list of a tetrahedron.
-fn welded_list() -> [u32; 12] {
-    [201, 202, 203, 204, 205, 206, 207, 208, 209, 210, 211, 212]
-}
+const WELDED: [u32; 12] = [201, 202, 203, 204, 205, 206, 207, 208, 209, 210, 211, 212];
 
-// Why the lookup of a face of a tetrahedron is refused, in a raw list of so many words.
-fn refusal(len: usize, face: usize, flags: u8) -> u8
-    requires { len ≤ 13 }
-{
-    let raw = raw_list();
-    let welded = welded_list();
-    let c = nodes::corners();
-    let words = [0u32, 1, 2, 3];
-    faces::ring_refusal(
-        &c,
-        &[1u8],
-        &[4u32],
-        &words,
-        0.0,
-        Checks(flags),
-        &raw[0..len],
-        &welded,
-        face,
-    )
-}
-
-// The ring that the same lookup hands back.
-fn part(rt: &impl Print, len: usize, which: RingList, face: usize, flags: u8) -> io::Result<()>
-    requires { len ≤ 13 }
-{
-    let raw = raw_list();
-    let welded = welded_list();
-    let c = nodes::corners();
-    let words = [0u32, 1, 2, 3];
-    let ring = faces::ring_lookup(
-        &c,
-        &[1u8],
-        &[4u32],
-        &words,
-        0.0,
-        Checks(flags),
-        &raw[0..len],
-        &welded,
-        which,
-        face,
-    );
-    list(rt, b"  part", ring)
-}
-
-// Both.
+// The lookup of a face of a tetrahedron, in a raw list of so many words: why it is refused, and the ring that it hands back.
 fn look(
     rt: &impl Print,
     name: &[u8],
@@ -90,8 +35,15 @@ fn look(
 ) -> io::Result<()>
     requires { len ≤ 13 }
 {
-    test_support::tell(rt, name, refusal(len, face, flags) as u64)?;
-    part(rt, len, which, face, flags)
+    let m = nodes::tetrahedron(flags);
+    let raw = &RAW[..len];
+    let judged = faces::judge_lookup(&m, raw, &WELDED, face);
+    test_support::tell(rt, name, test_support::refused(judged))?;
+    list(
+        rt,
+        b"  part",
+        faces::ring_lookup(&m, raw, &WELDED, which, face),
+    )
 }
 
 // 4, then 12.
@@ -127,35 +79,18 @@ fn looks(rt: &impl Print) -> io::Result<()> {
 
 // ---- face owners
 
-// The owners of a face of a tetrahedron and of a PHED that holds one of its faces twice, in a lent list.
-fn own_in(rt: &impl Print, name: &[u8], face: usize, lent: &mut [u32]) -> io::Result<()> {
-    let c = nodes::corners();
-    let words = [0u32, 1, 2, 3, 0, 1, 2, 4294967295, 2, 1, 0];
-    let r = owners::face_owners(
-        &c,
-        &[1u8, 4],
-        &[4u32, 11],
-        &words,
-        0.0,
-        Checks(3),
-        face,
-        lent,
-    );
-    match r {
-        Counted::Refused(n) => test_support::tell(rt, name, n as u64),
-        Counted::Count(n) => {
-            test_support::say_number(rt, b"held ", n as u64)?;
-            list(rt, b" times by", lent)
-        }
-    }
-}
-
-// The same in a list of so many words.
+// The owners of a face of a tetrahedron and of a PHED that holds one of its faces twice, in a list of so many words.
 fn own(rt: &impl Print, name: &[u8], face: usize, room: usize) -> io::Result<()>
     requires { room ≤ 4 }
 {
     let mut lent = [9u32; 4];
-    own_in(rt, name, face, &mut lent[0..room])
+    match owners::face_owners(&nodes::both(), face, &mut lent[..room]) {
+        Err(e) => test_support::tell(rt, name, e.number() as u64),
+        Ok(n) => {
+            test_support::say_number(rt, b"held ", n as u64)?;
+            list(rt, b" times by", &lent[..room])
+        }
+    }
 }
 
 // As many as fit; then 12.
@@ -173,15 +108,11 @@ fn owns(rt: &impl Print) -> io::Result<()> {
 fn test(rt: &impl Print, name: &[u8], last: u32, many: usize, tol: f64) -> io::Result<()>
     requires { many ≤ 65 }
 {
-    let c = nodes::corners();
     let mut nodes = [0u32; 65];
     nodes[1] = 1;
     nodes[2] = last;
-    let r = area::area_test(&c, &nodes[0..many], tol);
-    match r {
-        AreaAnswer::Refused(n) => test_support::tell(rt, name, n as u64),
-        AreaAnswer::Says(_) => test_support::tell(rt, name, 0),
-    }
+    let says = area::area_test(&nodes::CORNERS, &nodes[..many], tol);
+    test_support::tell(rt, name, test_support::refused(says))
 }
 
 // 5, 6 and 12.

@@ -1,6 +1,37 @@
-// The nodes that most trials use: the corners of a tetrahedron.
-ghost use Rattle.std.specs.Prelude.{◌≡◌};
+// The models that most trials use: cells on the corners of a tetrahedron.
+use mesh::{Checks, Kind, Model};
 
-pub fn corners() -> [f64; 12] {
-    [0.0, 0.0, 0.0, 1.0, 0.0, 0.0, 0.0, 1.0, 0.0, 0.0, 0.0, 1.0]
+// The corners, a tetrahedron, and a PHED with a face of it in both orders of its nodes.
+pub const CORNERS: [f64; 12] = [0.0, 0.0, 0.0, 1.0, 0.0, 0.0, 0.0, 1.0, 0.0, 0.0, 0.0, 1.0];
+
+const KINDS: [u8; 2] = [Kind::Tet4 as u8, Kind::Phed as u8];
+
+const ENDS: [u32; 2] = [4, 11];
+
+const WORDS: [u32; 11] = [0, 1, 2, 3, 0, 1, 2, mesh::SEPARATOR, 2, 1, 0];
+
+// The tetrahedron alone.
+pub fn tetrahedron(flags: u8) -> Model<'static> {
+    Model {
+        coords: &CORNERS,
+        kinds: &KINDS[..1],
+        ends: &ENDS[..1],
+        words: &WORDS[..4],
+        tolerance: 0.0,
+        checks: Checks(flags),
+        cap: 0,
+    }
+}
+
+// Both cells.
+pub fn both() -> Model<'static> {
+    Model {
+        coords: &CORNERS,
+        kinds: &KINDS,
+        ends: &ENDS,
+        words: &WORDS,
+        tolerance: 0.0,
+        checks: Checks(3),
+        cap: 0,
+    }
 }

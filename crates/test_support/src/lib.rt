@@ -1,33 +1,29 @@
 // For the programs of the gate: files, what stands in their bytes, and what is printed.
 #![tactic(auto)]
 
-ghost use Rattle.std.specs.Prelude.{◌≡◌, ◌+◌, ◌*◌, ◌^◌, ◌<◌, ◌≤◌, length, take};
+ghost use Rattle.std.specs.Prelude.{◌+◌, ◌^◌, ◌<◌, ◌≤◌, length};
 
+use refusals::Refusal;
 use std::io::Read;
 use std::rt::Files;
 use std::{fs, io, str};
 
 // ---- files
 
-// Whether a file is there, and how many of its bytes were read.
-#[derive(Drop)]
-pub struct File {
-    pub there: bool,
-    pub size: usize,
-}
-
-fn not_there() -> File
-    ensures { result.size ≡ 0 }
-{
-    File {
-        there: false,
-        size: 0,
-    }
+// The name of a file of case n, with an ending of three bytes.
+pub fn case_name(n: usize, ending: &[u8; 3]) -> [u8; 13] {
+    let mut name = *b"case-0000.in ";
+    name[5] += (n / 1000 % 10) as u8;
+    name[6] += (n / 100 % 10) as u8;
+    name[7] += (n / 10 % 10) as u8;
+    name[8] += (n % 10) as u8;
+    name[10..].copy_from_slice(ending);
+    name
 }
 
 // Reads to the front of buf until it is full, the input ends or a read fails.
 fn read_full<R: Read>(input: &mut R, buf: &mut [u8]) -> usize
-    ensures { (result ≤ length buf.new) × (result ≡ length (take result buf.new)) }
+    ensures { result ≤ length buf.new }
 {
     let mut done = 0;
     while done < buf.len() {
@@ -40,27 +36,15 @@ fn read_full<R: Read>(input: &mut R, buf: &mut [u8]) -> usize
     done
 }
 
-// Reads the file of that name to the front of buf, if there is one.
-pub fn read_file<R: Files>(rt: &R, name: &[u8], buf: &mut [u8]) -> File
-    ensures { (result.size ≤ length buf.new) × (result.size ≡ length (take result.size buf.new)) }
-{
-    let Ok(path) = str::from_utf8(name) else {
-        return not_there();
-    };
-    let Ok(mut file) = fs::open(rt, path) else {
-        return not_there();
-    };
-    let size = read_full(&mut file, buf);
-    File { there: true, size }
+// Reads the file of that name to the front of buf, and answers that part; none where there is no such file.
+pub fn read_file<'a, R: Files>(rt: &R, name: &[u8], buf: &'a mut [u8]) -> Option<&'a mut [u8]> {
+    let path = str::from_utf8(name).ok()?;
+    let mut file = fs::open(rt, path).ok()?;
+    let n = read_full(&mut file, buf);
+    Some(&mut buf[..n])
 }
 
 // ---- numbers in bytes, the lowest first
-
-pub fn wide(b: u8) -> usize
-    ensures { result < 256 }
-{
-    b as usize
-}
 
 // The number in four bytes.
 pub fn four(s: &[u8], at: usize) -> usize
@@ -70,25 +54,44 @@ pub fn four(s: &[u8], at: usize) -> usize
     floats::le_four(s, at) as usize
 }
 
-// The first n of coords become those that start at a place.
-pub fn read_coords(s: &[u8], from: usize, coords: &mut [f64], n: usize)
-    requires { (from + 8 * n ≤ length s.now) × (n ≤ length coords.old) }
-{
-    let mut i = 0;
-    while i < n {
-        coords[i] = floats::le_f64(s, from + 8 * i);
-        i += 1;
+// What stands in N bytes.
+pub trait Stored<const N: usize>: Copy {
+    fn from_bytes(bytes: &[u8; N]) -> Self;
+}
+
+impl Stored<8> for f64 {
+    fn from_bytes(bytes: &[u8; 8]) -> f64 {
+        floats::le_f64(bytes, 0)
     }
 }
 
-// The first n of words become those that start at a place, four bytes each.
-pub fn read_words(s: &[u8], from: usize, words: &mut [u32], n: usize)
-    requires { (from + 4 * n ≤ length s.now) × (n ≤ length words.old) }
+impl Stored<4> for u32 {
+    fn from_bytes(bytes: &[u8; 4]) -> u32 {
+        u32::from_le_bytes(*bytes)
+    }
+}
+
+// Each item becomes what the next N bytes hold, as far as the bytes go.
+pub fn read<T: Stored<N>, const N: usize>(s: &[u8], items: &mut [T])
+    requires { N < 2 ^ 16 }
 {
-    let mut i = 0;
-    while i < n {
-        words[i] = four(s, from + 4 * i) as u32;
-        i += 1;
+    let mut rest = s;
+    for item in items {
+        let Some((bytes, behind)) = rest.split_first_chunk::<N>() else {
+            return;
+        };
+        *item = T::from_bytes(bytes);
+        rest = behind;
+    }
+}
+
+// ---- answers
+
+// The number of the refusal, 0 where there is none.
+pub fn refused<T: Copy>(answer: Result<T, Refusal>) -> u64 {
+    match answer {
+        Err(e) => e.number() as u64,
+        Ok(_) => 0,
     }
 }
 
@@ -122,8 +125,5 @@ pub fn tell_agrees(rt: &impl Print, name: &[u8], agrees: bool) -> io::Result<()>
 
 // One more where it holds.
 pub fn more(n: u64, holds: bool) -> u64 {
-    if holds {
-        return std::num::wrapping_add_u64(n, 1);
-    }
-    n
+    n.wrapping_add(holds as u64)
 }

@@ -1,9 +1,6 @@
 -- The sum stays below the number that it is taken by.
-use Rattle.std.proofs.Common.{◌<◌, ◌-◌, length}
+use Rattle.std.proofs.Common.{◌<◌}
 use Rattle.model_files.proofs.sum_of.Given as goal
 
-abbrev pub invariant-loop-i : goal.invariant-loop-i
-invariant-loop-i l = l.sum < 4294967296
-
-abbrev pub decreases-loop-i : goal.decreases-loop-i
-decreases-loop-i l = length l.l - l.i
+abbrev pub invariant-loop-x : goal.invariant-loop-x
+invariant-loop-x l = l.sum < 4294967296
