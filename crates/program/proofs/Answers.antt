@@ -1,30 +1,27 @@
 -- The text of what the check answers is that of the model.
-use Prim.Native.Nat.{ℕ, ◌*◌, ◌-◌, ◌≤◌}
+use Prim.Native.Nat.{ℕ, ◌*◌, ◌≤◌}
 use mathlib.Core.Path.{◌≡◌, sym, ap, ap₂, ◌∙◌, subst}
 use mathlib.Core.Logic.{◌⊎◌, inl, inr, ◌≢◌}
 use mathlib.Core.Bool.{Bool, true, false, cond}
 use mathlib.Core.List.Memᴰ
 use mathlib.Core.List.{List, [], ◌∷◌, map, Memᴰ}
-use native.Mathlib.Nat.{sub-zero}
 use native.Mathlib.Omega.{arith}
 use borrow.Author.Tests.{eqb-true, eqb-false, eq-eqb, ne_eqb}
 use lib.Dec.{eqb, ltb}
-use lib.Ieee.{Float}
 use lib.ListN.{length, take, drop, replicate, length-take, take-append-drop}
 use lib.Seq.{take_at}
 use Rattle.laws.specs.Limits.{program_records, program_work}
 use Rattle.laws.specs.Lists.{each}
-use Rattle.laws.specs.Refusals.{refusal, filled}
+use Rattle.laws.specs.Refusals.{Answer, refused, done, refusal, filled}
 use Rattle.laws.proofs.Tables.{refusal_first, answered_done, answered_refused}
 use Rattle.laws.proofs.Tests.{tested}
-use Rattle.mesh.specs.Model.{Model, model_of}
+use Rattle.mesh.specs.Model.{Model}
 use Rattle.mesh.specs.Acceptance.{model_table, model_refusal, check_table, work_needed}
 use Rattle.findings.specs.Findings.{Finding}
 use Rattle.findings.specs.Rules.{rules_of, full_of}
 use Rattle.findings.specs.Records.{Fields, fields_of, record_of, kept_bytes}
-use Rattle.findings.specs.Check.{Totals, totals_of, check_refusal, Checking}
-use Rattle.findings.specs.declared.CheckAnswer.{CheckAnswer}
-use Rattle.findings.specs.declared.CheckAnswer.TheVariants.{Refused, Report}
+use Rattle.findings.specs.declared.Totals.{Totals}
+use Rattle.findings.specs.Check.{totals_of, check_refusal, Checking}
 use Rattle.findings.proofs.Kept.{records_64, lent_length, report_is}
 use Rattle.findings.proofs.Models.{below_of}
 use Rattle.report.specs.Text.{refused_line, report_text}
@@ -32,25 +29,7 @@ use Rattle.report.specs.Program.{report_of}
 use Rattle.report_text.specs.Stored.{Stored, fields_kept}
 use Rattle.report_text.proofs.Reports.{kept_back}
 use Rattle.program.specs.Running.{kept_in}
-use Rattle.program.specs.Steps.{text_of, Keeps, checked_refusal, model_text, Reporting}
-
--- ---- answers
-
--- of an answer that is a report: what was kept fits
-pub keeps_report : (a : CheckAnswer) (f : List ℕ) (t k : ℕ) → a ≡ Report t k → Keeps a f → (64 * k ≤ length f) × (k ≤ program_records)
-keeps_report a f t k e h = subst (λ (x : CheckAnswer). Keeps x f) e h
-
--- the text of an answer that is at hand
-pub stored_as : (a b : CheckAnswer) (f l l' : List ℕ) (r : ℕ) → a ≡ b → Stored l 0 (text_of b f) l' r → Stored l 0 (text_of a f) l' r
-stored_as a b f l l' r e s = subst (λ (x : CheckAnswer). Stored l 0 (text_of x f) l' r) (sym e) s
-
--- a check of parts that start at 0, as the code lends them
-pub from_start : (coords : List Float) (kinds ends words : List ℕ) (tol : Float) (flags cap k n l : ℕ) (f f' w w' : List ℕ) (r : CheckAnswer)
-    → Checking (model_of (take (k - 0) coords) (take (n - 0) kinds) (take (n - 0) ends) (take (l - 0) words) tol flags cap) f f' w w' r
-    → Checking (model_of (take k coords) (take n kinds) (take n ends) (take l words) tol flags cap) f f' w w' r
-from_start coords kinds ends words tol flags cap k n l f f' w w' r c =
-    subst (λ (m : Model). Checking m f f' w w' r)
-    (λ i. model_of (take (sub-zero k i) coords) (take (sub-zero n i) kinds) (take (sub-zero n i) ends) (take (sub-zero l i) words) tol flags cap) c
+use Rattle.program.specs.Steps.{text_of, checked_refusal, model_text, Reporting}
 
 -- ---- the text
 
@@ -71,17 +50,17 @@ in_front : (k : ℕ) (l : List Finding) (x : Finding) → Memᴰ x (take k l) �
 in_front k l x h = subst (λ (y : List Finding). Memᴰ x y) (take-append-drop k l) (Memᴰ.append_left (drop k l) h)
 
 module _ (m : Model) (f f' w w' : List ℕ) where
-  -- a report keeps no more than was lent
-  pub keeps_of : (r : CheckAnswer) → length f ≡ 64 * program_records → Checking m f f' w w' r → Keeps r f'
-  keeps_of (Refused n) e c = tt
-  keeps_of (Report t k) e c =
-      let p = report_is m f f' w w' t k c in
-      (omega (arith, p.kept, lent_length m f f' w w' (Report t k) c), omega (arith, p.kept))
+  -- a report keeps no more records than there are bytes for, nor than the program lends
+  pub keeps_of : (t : Totals) → length f ≡ 64 * program_records → Checking m f f' w w' (done t) → (64 * t.kept ≤ length f') × (t.kept ≤ program_records)
+  keeps_of t e c =
+      let p = report_is m f f' w w' t c in
+      (omega (arith, p.kept, lent_length m f f' w w' (done t) c), omega (arith, p.kept))
 
   -- the fields read back from the findings are those of the records kept
-  fields_kept_lem : (t k : ℕ) → model_refusal m ≡ 0 → Checking m f f' w w' (Report t k) → fields_kept f' k ≡ map fields_of (take k (full_of m))
-  fields_kept_lem t k ok c =
-      let p = report_is m f f' w w' t k c in
+  fields_kept_lem : (t : Totals) → model_refusal m ≡ 0 → Checking m f f' w w' (done t) → fields_kept f' t.kept ≡ map fields_of (take t.kept (full_of m))
+  fields_kept_lem t ok c =
+      let p = report_is m f f' w w' t c in
+      let k = t.kept in
       let xs = take k (full_of m) in
       let n : length xs ≡ k = omega (arith, length-take k (full_of m), p.kept, p.total) in
       let long : length (each (record_of (rules_of m)) xs) ≡ 64 * k = omega (arith, records_64 (rules_of m) xs) in
@@ -94,21 +73,21 @@ module _ (m : Model) (f f' w w' : List ℕ) where
     same_no = ap (λ (n : ℕ). refusal (check_table m n)) lw
 
     -- the text
-    text_is : (r : CheckAnswer) → Checking m f f' w w' r → text_of r f' ≡ model_text m
+    text_is : (r : Answer Totals) → Checking m f f' w w' r → text_of r f' ≡ model_text m
     unfolding model_text report_of
-    text_is (Refused n) c =
+    text_is (refused n) c =
         let p = answered_refused n (check_refusal m w) (totals_of m (length f)) c.answered in
         let z : checked_refusal m ≢ 0 = λ e. eqb-false (check_refusal m w) 0 p.1 (same_no ∙ e) in
         ap refused_line (p.0 ∙ same_no) ∙ sym (ap (λ (b : Bool). cond b (report_of m) (refused_line (checked_refusal m))) (ne_eqb (checked_refusal m) 0 z))
-    text_is (Report t k) c =
-        let p = answered_done (check_refusal m w) (record { total = t; kept = k }) (totals_of m (length f)) c.answered in
+    text_is (done t) c =
+        let p = answered_done (check_refusal m w) t (totals_of m (length f)) c.answered in
         let z : checked_refusal m ≡ 0 = sym same_no ∙ p.0 in
-        ap (λ (l : List Fields). report_text l t k) (fields_kept_lem t k (not_refused m program_work z) c)
+        ap (λ (l : List Fields). report_text l t.total t.kept) (fields_kept_lem t (not_refused m program_work z) c)
         ∙ ap (λ (x : Totals). report_text (map fields_of (take x.kept (full_of m))) x.total x.kept) (p.1 ∙ ap (totals_of m) lf)
         ∙ sym (ap (λ (b : Bool). cond b (report_of m) (refused_line (checked_refusal m))) (eq-eqb (checked_refusal m) 0 z))
 
     -- what the check leaves and the text of its answer make the model's report
-    pub reporting : (r : CheckAnswer) (out out' : List ℕ) (q : ℕ) → Checking m f f' w w' r → Stored out 0 (text_of r f') out' q → q ≤ length out → Reporting m f f' w w' out out' q
+    pub reporting : (r : Answer Totals) (out out' : List ℕ) (q : ℕ) → Checking m f f' w w' r → Stored out 0 (text_of r f') out' q → q ≤ length out → Reporting m f f' w w' out out' q
     unfolding kept_in
     reporting r out out' q c s h =
         record {

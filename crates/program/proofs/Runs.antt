@@ -10,19 +10,21 @@ use lib.Dec.{eqb}
 use lib.Ieee.{Float}
 use lib.ListN.{length, take, drop, replicate, length-append}
 use lib.Seq.{take_at}
+use Rattle.std.specs.Prelude.{Ok, Err}
 use Rattle.laws.specs.Limits.{input_limit, program_work}
 use Rattle.laws.specs.Refusals.{refusal, filled}
 use Rattle.laws.proofs.Tables.{Numbered, refusal_first, refusal_second, unfilled, answered_done, answered_refused}
+use Rattle.refusals.specs.declared.Refusal.{Refusal}
+use Rattle.refusals.specs.Told.{number}
 use Rattle.model_file.proofs.Judgement.{records_numbered}
 use Rattle.laws.proofs.Tests.{tested}
 use Rattle.mesh.specs.Model.{Model, model_of}
 use Rattle.mesh.specs.Acceptance.{check_table, work_needed}
 use Rattle.model_file.specs.File.{records, file_table, decode, length_off}
-use Rattle.model_file.specs.Reading.{room_off, read_refusal, found_in, read_told, Reading}
+use Rattle.model_file.specs.Reading.{room_off, read_refusal, found_in, Reading}
 use Rattle.model_file.specs.Steps.{judge}
 use Rattle.model_file.specs.declared.Found.{Found}
-use Rattle.model_file.specs.declared.ReadAnswer.{ReadAnswer}
-use Rattle.model_file.specs.declared.ReadAnswer.TheVariants.{Refused, Read}
+use Rattle.model_file.specs.declared.Stage.TheVariants.{Nodes}
 use Rattle.model_read.proofs.FillPass.{ends_as_cells}
 use Rattle.report.specs.Text.{refused_line}
 use Rattle.report.specs.Program.{report_of, output}
@@ -35,7 +37,7 @@ use Rattle.program.proofs.Sizes.{threes, room}
 
 -- every number of a file's table is a refusal's
 file_numbered : (s : List ℕ) → Numbered (file_table s)
-file_numbered s = (λ e. omega arith, records_numbered 0 (records s))
+file_numbered s = (λ e. omega arith, records_numbered Nodes (records s))
 
 -- a file that is not refused has records that are not
 records_right : (b : Bool) (n : ℕ) → cond b 1 n ≡ 0 → n ≡ 0
@@ -54,7 +56,7 @@ module _ (s : List ℕ) (coords : List Float) (kinds ends words : List ℕ) (l :
       go : (eqb (refusal (file_table s)) 0 ≡ true) ⊎ (eqb (refusal (file_table s)) 0 ≡ false) → read_refusal s coords kinds ends words ≡ refusal (file_table s)
       go (inl t) =
           let z = eqb-true (refusal (file_table s)) 0 t in
-          let j = records_right (length_off (length s)) (judge 0 (records s)) z in
+          let j = records_right (length_off (length s)) (judge Nodes (records s)) z in
           refusal_second (file_table s) four (file_numbered s) z
           ∙ ap (λ (b : Bool). cond b 4 0) (room s (length coords) (length kinds) (length ends) (length words) l h j)
           ∙ sym z
@@ -101,10 +103,11 @@ module _ (s : List ℕ) (coords coords' : List Float) (kinds kinds' ends ends' w
   same_no = input_short s h ∙ sym (reads_as s coords kinds ends words l h)
 
   -- a file that reading refuses: refused with its number, and every list as it was
-  pub not_read : (a : ReadAnswer) (n : ℕ) (findings work out out' : List ℕ) (r : ℕ) → a ≡ Refused n → Reading s coords coords' kinds kinds' ends ends' words words' a → Stored out 0 (refused_line n) out' r → r ≤ length out
+  pub not_read : (e : Refusal) (findings work out out' : List ℕ) (r : ℕ) → Reading s coords coords' kinds kinds' ends ends' words words' (Err e) → Stored out 0 (refused_line (number e)) out' r → r ≤ length out
       → Running s coords coords' kinds kinds' ends ends' words words' findings findings work work out out' r
-  not_read a n findings work out out' r e c t w =
-      let q = answered_refused n (read_refusal s coords kinds ends words) (found_in (decode s)) (sym (ap read_told e) ∙ c.answered) in
+  not_read e findings work out out' r c t w =
+      let n = number e in
+      let q = answered_refused n (read_refusal s coords kinds ends words) (found_in (decode s)) c.answered in
       let some : read_refusal s coords kinds ends words ≢ 0 = eqb-false (read_refusal s coords kinds ends words) 0 q.1 in
       let z : refusal (file_table s) ≢ 0 = λ y. some (reads_as s coords kinds ends words l h ∙ y) in
       let p : program_refusal s ≡ n = program_short s h ∙ refusal_first (file_table s) (check_table (decode s) program_work) z ∙ sym (q.0 ∙ reads_as s coords kinds ends words l h) in
@@ -135,10 +138,10 @@ in_front_part : {A : Type 0} (xs l l' : List A) (k : ℕ) → k ≡ length xs �
 in_front_part xs l l' k n e = ap (take k) e ∙ take_at xs (drop (length xs) l) k (sym n)
 
 module _ (s : List ℕ) (coords coords' : List Float) (kinds kinds' ends ends' words words' : List ℕ) (l : Lists (length coords) (length kinds) (length ends) (length words)) (h : length s ≤ input_limit)
-    (a : ReadAnswer) (f : Found) (e : a ≡ Read f) (c : Reading s coords coords' kinds kinds' ends ends' words words' a) where
+    (f : Found) (c : Reading s coords coords' kinds kinds' ends ends' words words' (Ok f)) where
   -- nothing was refused, and what was found is the model's
   found : (read_refusal s coords kinds ends words ≡ 0) × (f ≡ found_in (decode s))
-  found = answered_done (read_refusal s coords kinds ends words) f (found_in (decode s)) (sym (ap read_told e) ∙ c.answered)
+  found = answered_done (read_refusal s coords kinds ends words) f (found_in (decode s)) c.answered
 
   -- the file is right
   file_right : refusal (file_table s) ≡ 0
@@ -172,7 +175,7 @@ module _ (s : List ℕ) (coords coords' : List Float) (kinds kinds' ends ends' w
   -- and the ends
   ends_count : f.cells ≡ length (decode s).ends
   unfolding decode
-  ends_count = kinds_count ∙ sym (ends_as_cells (records s) (records_right (length_off (length s)) (judge 0 (records s)) file_right))
+  ends_count = kinds_count ∙ sym (ends_as_cells (records s) (records_right (length_off (length s)) (judge Nodes (records s)) file_right))
 
   -- the words found are all words
   words_count : f.words ≡ length (decode s).words

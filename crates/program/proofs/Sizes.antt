@@ -8,13 +8,16 @@ use borrow.Author.Tests.{le-ltb}
 use lib.Dec.{ltb}
 use lib.Ieee.{Float}
 use lib.ListN.{length, drop, replicate, length-append, length-replicate}
+use Rattle.std.specs.Prelude.{Option, Some, None}
 use Rattle.laws.specs.Limits.{input_limit}
 use Rattle.model_file.specs.Records.{letter, coords_in, kinds_in, words_in, stage}
 use Rattle.model_file.specs.File.{chop, records, coords_of, kinds_of, words_of, ends_of, decode}
 use Rattle.model_file.specs.Reading.{room_off}
 use Rattle.model_file.specs.Steps.{judge}
 use Rattle.model_file.specs.declared.Letter.{Letter}
-use Rattle.model_file.specs.declared.Letter.TheVariants.{Node, Cell, More, Last, Other}
+use Rattle.model_file.specs.declared.Letter.TheVariants.{Node, Cell, More, Last}
+use Rattle.model_file.specs.declared.Stage.{Stage}
+use Rattle.model_file.specs.declared.Stage.TheVariants.{Nodes}
 use Rattle.model_file.proofs.Judgement.{passed}
 use Rattle.model_read.proofs.JudgePass.{little}
 use Rattle.model_read.proofs.FillPass.{ends_as_cells}
@@ -26,12 +29,12 @@ chop_length zero s = refl
 chop_length (suc n) s = ap suc (chop_length n (drop 32 s))
 
 -- a record adds three coordinates or none
-threes_in : (l : Letter) (r : List ℕ) → length (coords_in l r) % 3 ≡ 0
-threes_in Node r = refl
-threes_in Cell r = refl
-threes_in More r = refl
-threes_in Last r = refl
-threes_in Other r = refl
+threes_in : (l : Option Letter) (r : List ℕ) → length (coords_in l r) % 3 ≡ 0
+threes_in (Some Node) r = refl
+threes_in (Some Cell) r = refl
+threes_in (Some More) r = refl
+threes_in (Some Last) r = refl
+threes_in None r = refl
 
 -- so coordinates come in threes
 pub threes : (rs : List (List ℕ)) → length (coords_of rs) % 3 ≡ 0
@@ -44,7 +47,7 @@ record Few (rs : List (List ℕ)) : Type 0 where
   cells : length (kinds_of rs) ≤ length rs
   words : length (words_of rs) ≤ 14 * length rs
 
-few : (s : ℕ) (rs : List (List ℕ)) → judge s rs ≡ 0 → Few rs
+few : (s : Stage) (rs : List (List ℕ)) → judge s rs ≡ 0 → Few rs
 few s [] j = record { coords = omega arith; cells = omega arith; words = omega arith }
 few s (r ∷ rs) j =
     let p = passed s r rs (letter r) refl j in
@@ -57,12 +60,12 @@ few s (r ∷ rs) j =
     }
 
 -- there is room for a file that the program reads: reading never refuses with 4
-pub room : (s : List ℕ) (coords kinds ends words : ℕ) → Lists coords kinds ends words → length s ≤ input_limit → judge 0 (records s) ≡ 0 → room_off (decode s) coords kinds ends words ≡ false
+pub room : (s : List ℕ) (coords kinds ends words : ℕ) → Lists coords kinds ends words → length s ≤ input_limit → judge Nodes (records s) ≡ 0 → room_off (decode s) coords kinds ends words ≡ false
 unfolding decode
 room s coords kinds ends words l h j =
     let rs = records s in
     let n : length rs ≤ 1024 = omega (arith, chop_length (length s / 32) s) in
-    let f = few 0 rs j in
+    let f = few Nodes rs j in
     let e = ends_as_cells rs j in
     let a : ltb coords (length (coords_of rs)) ≡ false = le-ltb coords (length (coords_of rs)) (omega (arith, f.coords, l.coords_many)) in
     let b : ltb kinds (length (kinds_of rs)) ≡ false = le-ltb kinds (length (kinds_of rs)) (omega (arith, f.cells, l.kinds_many)) in

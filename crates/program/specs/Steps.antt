@@ -1,26 +1,20 @@
 -- For internal contracts: the text of an answer, and a model that is checked and reported.
 use Rattle.std.specs.Prelude.{ℕ, ◌*◌, ◌≤◌, cond, List, ◌≡◌, eqb, length, replicate}
-use Rattle.laws.specs.Limits.{program_records, program_work}
-use Rattle.laws.specs.Refusals.{refusal, filled}
+use Rattle.laws.specs.Limits.{program_work}
+use Rattle.laws.specs.Refusals.{Answer, refused, done, refusal, filled}
 use Rattle.mesh.specs.Model.{Model}
 use Rattle.mesh.specs.Acceptance.{check_table, work_needed}
 use Rattle.model_file.specs.declared.Found.{Found}
-use Rattle.findings.specs.declared.CheckAnswer.{CheckAnswer}
-use Rattle.findings.specs.declared.CheckAnswer.TheVariants.{Refused, Report}
+use Rattle.findings.specs.declared.Totals.{Totals}
 use Rattle.report.specs.Text.{refused_line, report_text}
 use Rattle.report.specs.Program.{report_of}
 use Rattle.report_text.specs.Stored.{Stored, fields_kept}
 use Rattle.program.specs.Running.{kept_in}
 
 -- the text of an answer of the check, with the finding bytes that it left
-abbrev pub text_of : CheckAnswer → List ℕ → List ℕ
-text_of (Refused n) f = refused_line n
-text_of (Report total kept) f = report_text (fields_kept f kept) total kept
-
--- a report keeps no more records than there are bytes for, nor than the program lends
-abbrev pub Keeps : CheckAnswer → List ℕ → Type 0
-Keeps (Refused n) f = Unit {0}
-Keeps (Report total kept) f = (64 * kept ≤ length f) × (kept ≤ program_records)
+abbrev pub text_of : Answer Totals → List ℕ → List ℕ
+text_of (refused n) f = refused_line n
+text_of (done t) f = report_text (fields_kept f t.kept) t.total t.kept
 
 -- checking's refusal of a model, with the program's work
 abbrev pub checked_refusal : Model → ℕ

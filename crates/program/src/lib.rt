@@ -7,31 +7,21 @@ ghost use Rattle.mesh.specs.Model.{model_of};
 ghost use Rattle.report.specs.Program.{output};
 ghost use Rattle.report_text.specs.Stored.{Stored};
 ghost use Rattle.program.specs.Running.{Memory, Lists, Running};
-ghost use Rattle.program.specs.Steps.{text_of, Keeps, Parts, Reporting};
+ghost use Rattle.program.specs.Steps.{Parts, Reporting};
 
-use findings::Totals;
 use mesh::{Checks, Model};
 use model_file::Found;
 use refusals::Refusal;
 
-// The text of what the check answers.
-fn put_answer(answer: Result<Totals, Refusal>, findings: &[u8], out: &mut [u8]) -> usize
-    requires { Keeps answer findings.now × (65600 ≤ length out.old) }
-    ensures { Stored out.old 0 (text_of answer findings.now) out.new result × (result ≤ length out.old) }
-{
-    match answer {
-        Err(e) => report_text::put_refused(out, 0, e.number() as u64),
-        Ok(t) => report_text::put_report(out, findings, t.total, t.kept as usize),
-    }
-}
-
-// The check of a model, and its report.
+// The check of a model, and its report: a refusal's line or a report's text.
 fn report_on(model: &Model, findings: &mut [u8], work: &mut [u32], out: &mut [u8]) -> usize
     requires { Memory (length findings.old) (length work.old) (length out.old) }
     ensures { Reporting (lent model.now) findings.old findings.new work.old work.new out.old out.new result }
 {
-    let answer = conformance::check(model, findings, work).map(|c| c.totals);
-    put_answer(answer, findings, out)
+    match conformance::check(model, findings, work) {
+        Err(e) => report_text::put_refused(out, 0, e.number() as u64),
+        Ok(c) => report_text::put_report(out, findings, c.totals.total, c.totals.kept as usize),
+    }
 }
 
 // The model that a file was found to hold, in the filled parts of the lists.

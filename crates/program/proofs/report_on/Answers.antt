@@ -1,38 +1,48 @@
 -- `program::report_on` meets its contract: what the check leaves in the lent memory, and the text of its answer.
-use Prim.Native.Nat.{◌*◌}
-use lib.ListN.{take}
-use Rattle.mesh.specs.Model.{Model, model_of}
-use Rattle.program.proofs.Answers.{from_start, keeps_of, reporting}
+use mathlib.Core.Path.{subst}
+use native.Mathlib.Omega.{arith}
+use Rattle.std.specs.Prelude.{ℕ, Result}
+use Rattle.laws.specs.Refusals.{refused, done}
+use Rattle.refusals.specs.declared.Refusal.{Refusal}
+use Rattle.refusals.specs.Told.{number, told_by}
+use Rattle.mesh.specs.Lent.{lent}
+use Rattle.findings.specs.Check.{Checking}
+use Rattle.report.specs.Text.{refused_line}
+use Rattle.report_text.specs.Stored.{Stored}
+use Rattle.conformance.specs.declared.Checked.{Checked}
+use Rattle.program.proofs.Answers.{keeps_of, reporting}
 use Rattle.program.proofs.report_on.Goals as goal
 
-pub put_answer-requires : goal.put_answer-requires
-put_answer-requires c =
+pub put_report-requires : goal.put_report-requires
+put_report-requires c =
     let a = c.args in
-    let k = 3 * a.f.nodes in
-    let n = a.f.cells in
-    let l = a.f.words in
-    let m : Model = model_of (take k a.coords.now) (take n a.kinds.now) (take n a.ends.now) (take l a.words.now) a.f.tolerance a.f.flags a.f.cap in
-    let h = c.check-checked in
-    let f = h.new.findings in
-    let w = h.new.work in
-    let r = h.result.answer in
-    let checked = from_start a.coords.now a.kinds.now a.ends.now a.words.now a.f.tolerance a.f.flags a.f.cap k n l
-    a.findings.now f a.work.now w r h.ensures.checking in
-    (keeps_of m a.findings.now f a.work.now w r c.requires.1.finding_bytes checked, c.requires.1.out_bytes)
+    let m = lent a.model.now in
+    let h = c.check in
+    let t = c.in-Ok.c.totals in
+    let checked : Checking m a.findings.now h.new.findings a.work.now h.new.work (done t) = subst (λ (r : Result Checked Refusal). Checking m a.findings.now h.new.findings a.work.now h.new.work (told_by (λ x. x.totals) r)) c.in-Ok.is h.ensures.checking in
+    let k = keeps_of m a.findings.now h.new.findings a.work.now h.new.work t c.requires.finding_bytes checked in
+    (k.0, omega (arith, k.1, c.requires.out_bytes))
 
-pub returns : goal.returns
-returns c =
+pub returns-in-Err : goal.returns-in-Err
+returns-in-Err c =
     let a = c.args in
-    let k = 3 * a.f.nodes in
-    let n = a.f.cells in
-    let l = a.f.words in
-    let m : Model = model_of (take k a.coords.now) (take n a.kinds.now) (take n a.ends.now) (take l a.words.now) a.f.tolerance a.f.flags a.f.cap in
-    let h = c.check-checked in
-    let f = h.new.findings in
-    let w = h.new.work in
-    let r = h.result.answer in
-    let checked = from_start a.coords.now a.kinds.now a.ends.now a.words.now a.f.tolerance a.f.flags a.f.cap k n l
-    a.findings.now f a.work.now w r h.ensures.checking in
-    let p = c.put_answer in
-    let q = c.requires.1 in
-    reporting m a.findings.now f a.work.now w q.finding_bytes q.work_words r a.out.now p.new.out p.result checked p.ensures.0 p.ensures.1
+    let m = lent a.model.now in
+    let h = c.check in
+    let q = c.requires in
+    let p = c.put_refused in
+    let e = c.in-Err.e in
+    let checked : Checking m a.findings.now h.new.findings a.work.now h.new.work (refused (number e)) =
+    subst (λ (r : Result Checked Refusal). Checking m a.findings.now h.new.findings a.work.now h.new.work (told_by (λ x. x.totals) r)) c.in-Err.is h.ensures.checking in
+    let line : Stored a.out.now 0 (refused_line (number e)) p.new.out p.result = subst (λ (n : ℕ). Stored a.out.now 0 (refused_line n) p.new.out p.result) c.number.ensures.value p.ensures.0 in
+    reporting m a.findings.now h.new.findings a.work.now h.new.work q.finding_bytes q.work_words (refused (number e)) a.out.now p.new.out p.result checked line (omega (arith, p.ensures.1, q.out_bytes))
+
+pub returns-in-Ok : goal.returns-in-Ok
+returns-in-Ok c =
+    let a = c.args in
+    let m = lent a.model.now in
+    let h = c.check in
+    let q = c.requires in
+    let p = c.put_report in
+    let t = c.in-Ok.c.totals in
+    let checked : Checking m a.findings.now h.new.findings a.work.now h.new.work (done t) = subst (λ (r : Result Checked Refusal). Checking m a.findings.now h.new.findings a.work.now h.new.work (told_by (λ x. x.totals) r)) c.in-Ok.is h.ensures.checking in
+    reporting m a.findings.now h.new.findings a.work.now h.new.work q.finding_bytes q.work_words (done t) a.out.now p.new.out p.result checked p.ensures.0 p.ensures.1

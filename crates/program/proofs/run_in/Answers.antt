@@ -1,7 +1,16 @@
 -- `program::run_in` meets its contract: the input is too long, or reading refuses it, or its model is checked.
-use Prim.Native.Nat.{◌≤◌}
+use Prim.Native.Nat.{ℕ, ◌≤◌}
+use mathlib.Core.Path.{subst}
 use native.Mathlib.Omega.{arith}
 use lib.ListN.{length}
+use Rattle.std.specs.Prelude.{Result}
+use Rattle.refusals.specs.declared.Refusal.{Refusal}
+use Rattle.mesh.specs.Model.{Model}
+use Rattle.model_file.specs.declared.Found.{Found}
+use Rattle.model_file.specs.Reading.{Reading}
+use Rattle.report.specs.Text.{refused_line}
+use Rattle.report_text.specs.Stored.{Stored}
+use Rattle.program.specs.Steps.{Reporting}
 use Rattle.program.proofs.Runs.{too_long, not_read, found_fits, checked}
 use Rattle.program.proofs.run_in.Goals as goal
 
@@ -9,36 +18,40 @@ pub returns-then-input-gt32768 : goal.returns-then-input-gt32768
 returns-then-input-gt32768 c =
     let a = c.args in
     let p = c.put_refused in
+    let line = subst (λ (n : ℕ). Stored a.out.now 0 (refused_line n) p.new.out p.result) c.number.ensures.value p.ensures.0 in
     too_long a.input.now a.coords.now a.kinds.now a.ends.now a.words.now a.findings.now a.work.now a.out.now p.new.out p.result
-    c.if-input-gt32768.true p.ensures.0 (omega (arith, p.ensures.1, c.requires.1.out_bytes))
+    c.if-input-gt32768.true line (omega (arith, p.ensures.1, c.requires.1.out_bytes))
 
-pub report_on-requires : goal.report_on-requires
-report_on-requires c =
+pub found_model-m-requires : goal.found_model-m-requires
+found_model-m-requires c =
     let a = c.args in
-    let d = c.read-answer in
-    let g = c.in-Read in
+    let d = c.read in
+    let g = c.in-Ok in
     let short : length c.args.input.now ≤ 32768 = omega arith in
-    let fits = found_fits a.input.now a.coords.now d.new.coords a.kinds.now d.new.kinds a.ends.now d.new.ends a.words.now d.new.words c.requires.0 short
-    d.result g.f g.is d.ensures in
-    (fits, c.requires.1)
+    found_fits a.input.now a.coords.now d.new.coords a.kinds.now d.new.kinds a.ends.now d.new.ends a.words.now d.new.words c.requires.0 short
+    g.f (subst (λ (r : Result Found Refusal). Reading a.input.now a.coords.now d.new.coords a.kinds.now d.new.kinds a.ends.now d.new.ends a.words.now d.new.words r) g.is d.ensures)
 
-pub returns-in-Refused : goal.returns-in-Refused
-returns-in-Refused c =
+pub returns-in-Err : goal.returns-in-Err
+returns-in-Err c =
     let a = c.args in
-    let d = c.read-answer in
-    let g = c.in-Refused in
-    let p = c.put_refused-in-Refused in
+    let d = c.read in
+    let g = c.in-Err in
+    let p = c.put_refused-in-Err in
     let short : length c.args.input.now ≤ 32768 = omega arith in
+    let line = subst (λ (n : ℕ). Stored a.out.now 0 (refused_line n) p.new.out p.result) c.number-in-Err.ensures.value p.ensures.0 in
     not_read a.input.now a.coords.now d.new.coords a.kinds.now d.new.kinds a.ends.now d.new.ends a.words.now d.new.words c.requires.0 short
-    d.result g.n a.findings.now a.work.now a.out.now p.new.out p.result g.is d.ensures p.ensures.0 (omega (arith, p.ensures.1, c.requires.1.out_bytes))
+    g.e a.findings.now a.work.now a.out.now p.new.out p.result
+    (subst (λ (r : Result Found Refusal). Reading a.input.now a.coords.now d.new.coords a.kinds.now d.new.kinds a.ends.now d.new.ends a.words.now d.new.words r) g.is d.ensures)
+    line (omega (arith, p.ensures.1, c.requires.1.out_bytes))
 
-pub returns-in-Read : goal.returns-in-Read
-returns-in-Read c =
+pub returns-in-Ok : goal.returns-in-Ok
+returns-in-Ok c =
     let a = c.args in
-    let d = c.read-answer in
-    let g = c.in-Read in
+    let d = c.read in
+    let g = c.in-Ok in
     let p = c.report_on in
     let short : length c.args.input.now ≤ 32768 = omega arith in
     checked a.input.now a.coords.now d.new.coords a.kinds.now d.new.kinds a.ends.now d.new.ends a.words.now d.new.words c.requires.0 short
-    d.result g.f g.is d.ensures
-    a.findings.now p.new.findings a.work.now p.new.work a.out.now p.new.out p.result p.ensures
+    g.f (subst (λ (r : Result Found Refusal). Reading a.input.now a.coords.now d.new.coords a.kinds.now d.new.kinds a.ends.now d.new.ends a.words.now d.new.words r) g.is d.ensures)
+    a.findings.now p.new.findings a.work.now p.new.work a.out.now p.new.out p.result
+    (subst (λ (m : Model). Reporting m a.findings.now p.new.findings a.work.now p.new.work a.out.now p.new.out p.result) c.found_model-m.ensures p.ensures)
