@@ -88,10 +88,6 @@ module _ (s : List ℕ) (coords : List Float) (kinds ends words : List ℕ) wher
   abbrev four : List (ℕ × Bool)
   four = (4, room_off (decode s) (length coords) (length kinds) (length ends) (length words)) ∷ []
 
-  -- 1
-  pub refused-length : length_off (length s) ≡ true → read_refusal s coords kinds ends words ≡ 1
-  refused-length h = rw h
-
   -- 2 and 3
   pub refused_records : length_off (length s) ≡ false → judge Nodes (records s) ≢ 0 → read_refusal s coords kinds ends words ≡ judge Nodes (records s)
   refused_records h z = rw h (refusal_first (records_table Nodes (records s)) four z)

@@ -56,13 +56,6 @@ pub leading_none : (s : List ℕ) (n v : ℕ) → 32 * n + 32 ≤ length s → v
 leading_none s n v h e k =
     next_leads s n h ∙ ap (λ (b : Bool). cond b (suc (leading (records (drop (32 * n + 32) s)))) 0) (ne_eqb (number (slice (32 * n) (32 * n + 8) s)) 78 (λ z. k (e ∙ z)))
 
--- there is no record
-pub leading_end : (s : List ℕ) (n : ℕ) → length s / 32 ≤ n → leading (records (drop (32 * n) s)) ≡ 0
-leading_end s n h =
-    let d = length-drop (32 * n) s in
-    let z : length (drop (32 * n) s) / 32 ≡ 0 = omega arith in
-    ap (λ (k : ℕ). leading (chop k (drop (32 * n) s))) z
-
 -- ---- what they add
 
 -- nodes in front of other records
@@ -180,10 +173,7 @@ judging_start s n h =
       few_words = omega arith;
     }
 
--- ---- the loop that stores their coordinates: its start, a turn, its end
-
-pub nodes_start : (l : List Float) (n : ℕ) (s : List ℕ) → sets l (3 * 0) (node_coords (chop (n - 0) (drop (32 * 0) s))) ≡ sets l 0 (node_coords (chop n s))
-nodes_start l n s = rw sub-zero
+-- ---- the loop that stores their coordinates: a turn
 
 pub nodes_more : (l l' : List Float) (n i : ℕ) (s : List ℕ) → i < n → l' ≡ sets l (3 * i) (coords_in (Some Node) (take 32 (drop (32 * i) s)))
     → sets l' (3 * (i + 1)) (node_coords (chop (n - (i + 1)) (drop (32 * (i + 1)) s))) ≡ sets l (3 * i) (node_coords (chop (n - i) (drop (32 * i) s)))
@@ -195,9 +185,6 @@ nodes_more l l' n i s h e =
     sym (ap (λ (k : ℕ). sets l (3 * i) (node_coords (chop k (drop (32 * i) s)))) a
     ∙ sets_append l (3 * i) (coords_in (Some Node) r) (node_coords (chop (n - (i + 1)) (drop 32 (drop (32 * i) s))))
     ∙ (λ j. sets (sym e j) (b j) (node_coords (chop (n - (i + 1)) ((drop-drop 32 (32 * i) s ∙ ap (λ (k : ℕ). drop k s) d) j)))))
-
-pub nodes_end : (l : List Float) (n i : ℕ) (s : List ℕ) → n ≤ i → sets l (3 * i) (node_coords (chop (n - i) (drop (32 * i) s))) ≡ l
-nodes_end l n i s h = let a : n - i ≡ 0 = omega arith in rw a
 
 -- they are stored, and these are all coordinates
 pub nodes_stored : (l l' : List Float) (n : ℕ) (s : List ℕ) → Nodes s n → judge Begun (records s) ≡ 0 → l' ≡ sets l 0 (node_coords (chop n s)) → l' ≡ sets l 0 (coords_of (records s))

@@ -28,6 +28,7 @@ fn phed_lengths(words: &[u32], work: &mut [u32], at: usize) -> usize
     requires { (length words.now < 4294967296) × (at + length (phed_rings words.now) ≤ length work.old) }
     ensures { WordsPut (map length (phed_rings words.now)) work.old work.new at result }
 {
+    // k goes up by hand: how many rings there are is known only behind them
     let mut k = at;
     for ring in PhedRings::new(words) {
         work[k] = ring.len() as u32;

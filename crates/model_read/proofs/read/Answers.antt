@@ -7,17 +7,10 @@ use Rattle.laws.specs.Lists.{All}
 use Rattle.model_file.specs.File.{length_off}
 use Rattle.model_file.specs.Held.{Byte}
 use Rattle.model_file.proofs.Numbers.{all_known}
-use Rattle.refusals.specs.declared.Refusal.TheVariants.{FileLength, Room}
+use Rattle.refusals.specs.declared.Refusal.TheVariants.{Room}
 use Rattle.refusals.proofs.Told.{number-positive}
-use Rattle.model_read.proofs.Answering.{length_whole, last_lent, last_long, found_is_lem, refused-length, refused_records, refused_room, refused_none, fitting, reading_refused, reading_done}
+use Rattle.model_read.proofs.Answering.{length_whole, last_lent, last_long, found_is_lem, refused_records, refused_room, refused_none, fitting, reading_refused, reading_done}
 use Rattle.model_read.proofs.read.Goals as goal
-
-pub returns-then-length_off : goal.returns-then-length_off
-returns-then-length_off c =
-    let each_byte : All Byte c.args.bytes.now = all_known Byte 0 c.args.bytes.now (λ i. (c.type_inv.bytes i).fits) in
-    let a = c.args in
-    reading_refused a.bytes.now a.coords.now a.kinds.now a.ends.now a.words.now each_byte FileLength
-    (refused-length a.bytes.now a.coords.now a.kinds.now a.ends.now a.words.now (sym c.length_off.ensures ∙ c.if-length_off.true))
 
 pub judge_all-requires : goal.judge_all-requires
 judge_all-requires c = let w = length_whole c.args.bytes.now (sym c.length_off.ensures ∙ c.if-length_off.false) in (w.whole, w.few, c.leading_nodes-nodes.ensures)

@@ -5,7 +5,6 @@ use Rattle.refusals.proofs.Told.{number-positive, told_ok, told_err}
 use Rattle.mesh.specs.Lent.{lent}
 use Rattle.mesh.specs.Model.{Model}
 use Rattle.mesh.specs.declared.accepted.Accepted.{Accepted}
-use Rattle.model_file.specs.Held.{Held}
 use Rattle.model_file.specs.Writing.{Writing}
 use Rattle.model_write.proofs.Answering.{refused_model, writing_refused}
 use Rattle.model_write.proofs.write.Goals as goal
@@ -19,12 +18,6 @@ returns-in_err-accepted c =
     let e = c.in_err-accepted.field-0.0 in
     let n = told_err {A = Accepted} {B = Model} (λ a. lent a.model) e _ m c.in_err-accepted.ensures in
     rw (p.1, p.2) (writing_refused m o (record { coords = h.0; tolerance = h.1; cap = h.2 }) e (refused_model m o (λ z. omega (arith, number-positive e, n, z)) ∙ sym n))
-
-pub write_accepted-requires : goal.write_accepted-requires
-write_accepted-requires c =
-    let h = c.held.ensures in
-    let z = told_ok {A = Accepted} {B = Model} (λ a. lent a.model) c.in_ok-accepted.accepted _ _ c.in_ok-accepted.ensures in
-    subst Held (sym z.1) (record { coords = h.0; tolerance = h.1; cap = h.2 })
 
 pub returns : goal.returns
 returns c =

@@ -11,6 +11,3 @@ returns-then-n-eq14 c =
     let r = c.args.r.now in
     let n : count r ≡ 14 = c.if-n-eq14.true in
     sym (simp (le-leb _ _ c.if-n-least.false, le-leb _ _ c.if-n-gt14.false, eq-eqb _ _ c.if-r-ne0.false, zeros_end (4 + 2 * count r) 32 r (omega arith) (omega arith)))
-
-pub returns : goal.returns
-returns c = sym (simp (le-leb _ _ c.if-n-least.false, le-leb _ _ c.if-n-gt14.false, eq-eqb _ _ c.if-r-ne0.false) (sym c.rest_zero.ensures))
