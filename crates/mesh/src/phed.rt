@@ -52,6 +52,7 @@ impl<'a> Iterator for PhedRings<'a> {
     ghost remaining = { item_count phed_rest };
 
     fn next(&mut self) -> Option<&'a [u32]> {
+        // no `for`: a turn passes over the runs that are no ring, however many
         while !self.words.is_empty() {
             let n = lead(self.words);
             let run = &self.words[..n];

@@ -55,6 +55,7 @@ fn agrees(set: &[u8], kind: Kind) -> bool {
 // The entries of a list, one after the other.
 fn run_all(rt: &impl Print, s: &[u8], kind: Kind) -> io::Result<()> {
     let mut at = 0;
+    // no `for`: where the next entry begins stands in this one
     while at < s.len() {
         let Some(e) = entry_at(s, at) else {
             return test_support::tell_agrees(rt, b"an entry cut short", false);

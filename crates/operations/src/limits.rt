@@ -74,6 +74,7 @@ fn judge(m: &Entry) -> u64 {
 // A line for each model of the list.
 fn judge_all(rt: &impl Print, list: &[u8]) -> io::Result<()> {
     let mut rest = list;
+    // no `for`: how long a model is stands in it
     while 24 <= rest.len() {
         let Some((m, behind)) = split_first(rest) else {
             return test_support::tell(rt, b"a model cut short", 255);

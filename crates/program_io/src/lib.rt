@@ -13,6 +13,7 @@ fn read_full<R: Read>(input: &mut R, buf: &mut [u8]) -> io::Result<usize>
     ensures { ReadsAtMost result buf.new }
 {
     let mut done = 0;
+    // no `for`: a read gives as many bytes as there are at hand
     while done < buf.len() {
         let n = input.read(&mut buf[done..])?;
         if n == 0 {

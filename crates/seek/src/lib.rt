@@ -186,6 +186,7 @@ fn merge_runs(work: &mut [u32], at: index::Places, lo: usize, runs: &mut Merge) 
     let found = at.found;
     let mut n = 0;
     let mut g = merge::lowest(&work[..found], runs.count, &runs.from, &runs.to, at.faces);
+    // no `for`: the next face is the lowest that any run has next
     while g < at.faces {
         n = take_face(work, at, lo, runs, n, g);
         g = merge::lowest(&work[..found], runs.count, &runs.from, &runs.to, at.faces);

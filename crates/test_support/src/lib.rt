@@ -26,6 +26,7 @@ fn read_full<R: Read>(input: &mut R, buf: &mut [u8]) -> usize
     ensures { result ≤ length buf.new }
 {
     let mut done = 0;
+    // no `for`: a read gives as many bytes as there are at hand
     while done < buf.len() {
         let n = input.read(&mut buf[done..]).unwrap_or(0);
         if n == 0 {
