@@ -93,8 +93,14 @@ meet=bow_tie/src/lib.rt
 area=area/src/lib.rt
 eps=geometry/src/lib.rt
 welding=welding/src/lib.rt
-# the word at i, which is w, is a separator or stands in a run of one or two words of the one cell that a node set has
-short_run='let first = i < 1 || words[i - 1] == mesh::SEPARATOR;
+# the words one by one; and with their places: the word at i, which is w, is a separator or stands in a run of one or two words of the one
+# cell that a node set has
+each_word='for word in words {
+        let w = *word;
+        if w == mesh::SEPARATOR {'
+short_run='for (i, word) in words.iter().enumerate() {
+        let w = *word;
+        let first = i < 1 || words[i - 1] == mesh::SEPARATOR;
         let second = i < 2 || words[i - 2] == mesh::SEPARATOR;
         let last = i + 1 >= words.len() || words[i + 1] == mesh::SEPARATOR;
         let next = i + 2 >= words.len() || words[i + 2] == mesh::SEPARATOR;
@@ -104,7 +110,10 @@ short_run='let first = i < 1 || words[i - 1] == mesh::SEPARATOR;
 reading right $meet 'const TINY: f64 = 1e-12;' 'const TINY: f64 = 1e-12;' 'replay' 'numbers'
 # the slack of parallel edges is eps, or eps by the squared length, not eps by the edge's length; < for ≤ at either end
 slack='geometry::size(geometry::difference(b, a))'
-reading slack-alone $meet "eps / floats::larger($slack, LEAST)" 'eps' 'replay slack-alone-* slack-less-*-quarter slack-less-before-half'
+reading slack-alone $meet "eps / floats::larger(
+        $slack,
+        f64::MIN_POSITIVE,
+    )" 'eps' 'replay slack-alone-* slack-less-*-quarter slack-less-before-half'
 reading slack-squared $meet "$slack" 'geometry::dot(geometry::difference(b, a), geometry::difference(b, a))' \
     'replay slack-squared-* slack-less-*-long'
 reading slack-less-before $meet 'hi >= -slack' 'hi > -slack' 'replay slack-less-before-*'
@@ -119,27 +128,27 @@ reading together-less $area 'if far <= eps {' 'if far < eps {' 'numbers together
 reading direction-equal $area 'if geometry::longer(d, eps) {' 'if geometry::size(d) >= eps {' \
     'numbers direction-equal-*' 'replay direction-equal-*'
 # direction: the longest difference, not the first with root > eps
-reading direction-longest $area 'if geometry::longer(d, eps) {' 'if geometry::dot(d, d) >= most(coords, nodes, o) {' \
+reading direction-longest $area 'if geometry::longer(d, eps) {' 'if geometry::dot(d, d) >= most(rest, o) {' \
     'numbers direction-longest-*' 'replay direction-longest-*'
 # the squared distance in welding: dx² + (dy² + dz²)
 reading sum-order snap/src/sweeping.rt 'geometry::dot(d, d) <= limit' 'd.x * d.x + (d.y * d.y + d.z * d.z) <= limit' \
     'numbers sum-order-*' 'replay sum-order-*'
 # loose nodes are welded too; and a node that stands only in a run of one or two words, which is no ring, is taken for loose
-reading loose-welded $welding 'if work[k + i] != 0 {' 'if work[k + i] < 2 {' 'numbers loose-*'
-reading dropped-loose $welding 'if w == mesh::SEPARATOR {' "$short_run" 'numbers dropped-* sum-order-welded-*'
+reading loose-welded $welding 'if work[k + i] == 0 {' 'if work[k + i] > 1 {' 'numbers loose-*'
+reading dropped-loose $welding "$each_word" "$short_run" 'numbers dropped-* sum-order-welded-*'
 # the slack of a crossing's parameters
 reading tiny-1e-9 $meet 'const TINY: f64 = 1e-12;' 'const TINY: f64 = 1e-9;' 'replay tiny-1e-9-*'
 reading tiny-1e-3 $meet 'const TINY: f64 = 1e-12;' 'const TINY: f64 = 1e-3;' 'replay tiny-1e-* direction-equal-* slack-squared-short-*'
 reading tiny-0 $meet 'const TINY: f64 = 1e-12;' 'const TINY: f64 = 0.0;' 'replay tiny-0-*'
 # 64 × 2^-52 in eps, and in what counts as parallel
-reading eps-half $eps '64.0 * EPSILON * scale' '32.0 * EPSILON * scale' \
+reading eps-half $eps '64.0 * f64::EPSILON * scale' '32.0 * f64::EPSILON * scale' \
     'replay eps-half-* slack-less-* slack-alone-short-at near-less-scale' \
     'numbers eps-half-* together-less-scale direction-longest-scale'
-reading eps-zero $eps '64.0 * EPSILON * scale' '0.0 * EPSILON * scale' \
+reading eps-zero $eps '64.0 * f64::EPSILON * scale' '0.0 * f64::EPSILON * scale' \
     'replay eps-* slack-less-* slack-squared-long-* slack-alone-short-* near-less-scale tiny-0-turned parallel-*-touch' \
     'numbers eps-* together-less-scale direction-longest-scale'
-reading parallel-half $meet '64.0 * EPSILON * a11' '32.0 * EPSILON * a11' 'replay parallel-half-*'
-reading parallel-zero $meet '64.0 * EPSILON * a11' '0.0 * EPSILON * a11' 'replay parallel-*'
+reading parallel-half $meet '64.0 * f64::EPSILON * a11' '32.0 * f64::EPSILON * a11' 'replay parallel-half-*'
+reading parallel-zero $meet '64.0 * f64::EPSILON * a11' '0.0 * f64::EPSILON * a11' 'replay parallel-*'
 
 echo "$((readings - 1)) wrong readings and the right one: $told of $readings told as they should be"
 [ $told = $readings ]

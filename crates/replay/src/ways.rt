@@ -1,8 +1,11 @@
 // The check by each way of seeking candidates, and by the one that is less work: the same answer, and the same findings byte for byte.
 use crate::lent;
-use findings::CheckAnswer;
+use conformance::Checked;
 use full_list::Choice;
-use model_file::{Found, ReadAnswer};
+use mesh::{Checks, Model};
+use model_file::Found;
+use refusals::Refusal;
+use seek::Tally;
 
 // Whether the ways agree on a model, and how many faces were sought each way.
 #[derive(Clone, Copy)]
@@ -11,119 +14,81 @@ pub struct Sought {
     pub faces: u64,
 }
 
-// What a check answered, and how many faces it sought by each way.
-#[derive(Clone, Copy)]
-struct Outcome {
-    refused: u8,
-    total: u64,
-    kept: u64,
-    nodes: usize,
-    triples: usize,
-}
-
-fn outcome_of(answer: CheckAnswer, tally: seek::Tally) -> Outcome {
-    match answer {
-        CheckAnswer::Refused(n) => Outcome {
-            refused: n,
-            total: 0,
-            kept: 0,
-            nodes: tally.nodes,
-            triples: tally.triples,
-        },
-        CheckAnswer::Report(total, kept) => Outcome {
-            refused: 0,
-            total: total,
-            kept: kept,
-            nodes: tally.nodes,
-            triples: tally.triples,
-        },
+impl Sought {
+    // No face, though some should have been.
+    pub fn unlike() -> Sought {
+        Sought {
+            alike: false,
+            faces: 0,
+        }
     }
 }
 
-fn same_answer(a: Outcome, b: Outcome) -> bool {
-    (a.refused == b.refused) & (a.total == b.total) & (a.kept == b.kept)
-}
-
 // As many faces were sought by common nodes in the one as by node triples in the other, and none otherwise.
-fn each_way(a: Outcome, b: Outcome) -> bool {
+fn each_way(a: Tally, b: Tally) -> bool {
     (a.nodes == b.triples) & (a.triples == 0) & (b.nodes == 0)
 }
 
 // The check by a way.
-fn found_by(
-    f: Found,
-    coords: &[f64],
-    kinds: &[u8],
-    ends: &[u32],
-    words: &[u32],
-    choice: Choice,
-    findings: &mut [u8],
-) -> Outcome {
+fn found_by(model: &Model, choice: Choice, findings: &mut [u8]) -> Result<Checked, Refusal> {
     let mut work = [0u32; 16384];
-    let checked = conformance::check_by(
-        coords,
-        kinds,
-        ends,
-        words,
-        f.tolerance,
-        mesh::Checks(f.flags),
-        f.cap,
-        choice,
-        findings,
-        &mut work,
-    );
-    let answer = checked.answer;
-    let tally = checked.tally;
-    outcome_of(answer, tally)
+    conformance::check_by(model, choice, findings, &mut work)
+}
+
+// What three checks answered, compared.
+fn same_answers(
+    less: Result<Checked, Refusal>,
+    nodes: Result<Checked, Refusal>,
+    triples: Result<Checked, Refusal>,
+) -> Sought {
+    match (less, nodes, triples) {
+        (Ok(l), Ok(n), Ok(t)) => Sought {
+            alike: (l.totals == n.totals) & (n.totals == t.totals) & each_way(n.tally, t.tally),
+            faces: n.tally.nodes as u64,
+        },
+        (Err(l), Err(n), Err(t)) => Sought {
+            alike: (l == n) & (n == t),
+            faces: 0,
+        },
+        _ => Sought::unlike(),
+    }
 }
 
 // The check by every way, compared.
-fn compared(f: Found, coords: &[f64], kinds: &[u8], ends: &[u32], words: &[u32]) -> Sought {
+fn compared(model: &Model) -> Sought {
     let mut less = [lent::MARK; 32768];
     let mut nodes = [lent::MARK; 32768];
     let mut triples = [lent::MARK; 32768];
-    let l = found_by(f, coords, kinds, ends, words, Choice::LessWork, &mut less);
-    let n = found_by(f, coords, kinds, ends, words, Choice::ByNodes, &mut nodes);
-    let t = found_by(
-        f,
-        coords,
-        kinds,
-        ends,
-        words,
-        Choice::ByTriples,
-        &mut triples,
-    );
-    let answers = same_answer(l, n) & same_answer(n, t);
-    let bytes = (less == nodes) & (nodes == triples);
+    let l = found_by(model, Choice::LessWork, &mut less);
+    let n = found_by(model, Choice::ByNodes, &mut nodes);
+    let t = found_by(model, Choice::ByTriples, &mut triples);
+    let s = same_answers(l, n, t);
     Sought {
-        alike: answers & bytes & each_way(n, t),
-        faces: n.nodes as u64,
+        alike: s.alike & (less == nodes) & (nodes == triples),
+        faces: s.faces,
     }
 }
 
-// The parts of the lists that were filled. They are never longer than the lists.
-fn with_parts(f: Found, coords: &[f64], kinds: &[u8], ends: &[u32], words: &[u32]) -> Sought {
-    let none = Sought {
-        alike: false,
-        faces: 0,
-    };
-    let n = f.nodes;
-    let c = f.cells;
-    let w = f.words;
-    if coords.len() / 3 < n {
-        return none;
+// The model in the parts of the lists that were filled; none where they are longer than the lists.
+fn model_in<'a>(
+    f: Found,
+    coords: &'a [f64],
+    kinds: &'a [u8],
+    ends: &'a [u32],
+    words: &'a [u32],
+) -> Option<Model<'a>> {
+    if coords.len() / 3 < f.nodes {
+        return None;
     }
-    if kinds.len() < c {
-        return none;
-    }
-    if ends.len() < c {
-        return none;
-    }
-    if words.len() < w {
-        return none;
-    }
-    let k = 3 * n;
-    compared(f, &coords[0..k], &kinds[0..c], &ends[0..c], &words[0..w])
+    Some(Model {
+        coords: &coords[..3 * f.nodes],
+        kinds: kinds.get(..f.cells)?,
+        ends: ends.get(..f.cells)?,
+        words: words.get(..f.words)?,
+        tolerance: f.tolerance,
+        checks: Checks(f.flags),
+        cap: f.cap,
+    })
 }
 
 // A model file, checked by every way. One that is not read has nothing to seek.
@@ -132,12 +97,14 @@ pub fn by_either(input: &[u8]) -> Sought {
     let mut kinds = [0u8; 1024];
     let mut ends = [0u32; 1024];
     let mut words = [0u32; 14336];
-    let r = model_read::read(input, &mut coords, &mut kinds, &mut ends, &mut words);
-    match r {
-        ReadAnswer::Refused(_) => Sought {
+    match model_read::read(input, &mut coords, &mut kinds, &mut ends, &mut words) {
+        Err(_) => Sought {
             alike: true,
             faces: 0,
         },
-        ReadAnswer::Read(f) => with_parts(f, &coords, &kinds, &ends, &words),
+        Ok(f) => match model_in(f, &coords, &kinds, &ends, &words) {
+            Some(model) => compared(&model),
+            None => Sought::unlike(),
+        },
     }
 }

@@ -1,9 +1,6 @@
--- `replay` ends: each entry ends farther on, within the list.
-use Rattle.std.proofs.Common.{◌-◌, ◌≤◌, length}
+-- `replay` ends: each entry leaves a shorter list.
+use Rattle.std.proofs.Common.{length}
 use Rattle.replay.proofs.recorded.replay.Given as goal
 
-abbrev pub invariant-loop-at : goal.invariant-loop-at
-invariant-loop-at g l = l.at ≤ length l.s
-
-abbrev pub decreases-loop-at : goal.decreases-loop-at
-decreases-loop-at g l = length l.s - l.at
+abbrev pub decreases-loop-rest : goal.decreases-loop-rest
+decreases-loop-rest g l = length l.rest
