@@ -115,7 +115,7 @@ pub fn tally_runs(words: &[u32]) -> RunTally
     t
 }
 
-// A word that is no node's number, and in a PHED no separator.
+// A word that is no node's number, and in a PHED no separator. The kind is the lent one, any number.
 fn node_off(nodes: usize, kind: u8, word: u32) -> bool
     ensures { result ≡ node_off nodes kind word }
 {

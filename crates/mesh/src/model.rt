@@ -44,7 +44,7 @@ impl<'a> Model<'a> {
     }
 }
 
-// What a model says of a cell.
+// What a model says of a cell; the kind may be any number.
 #[derive(Clone, Copy)]
 pub struct RawCell<'a> {
     pub kind: u8,
