@@ -1,6 +1,8 @@
 // The text of a report, and the program's whole run.
 ghost use Rattle.capi.specs.Reports.{ReportExport, RunExport};
 
+use refusals::Refusal;
+
 // The text of the first `kept` records, or that there are no findings, as the program prints it; and its length in bytes.
 #[unsafe(no_mangle)]
 pub extern "C" fn lenoshale_report(
@@ -14,13 +16,13 @@ pub extern "C" fn lenoshale_report(
 {
     let k = kept as usize;
     if findings.len() / 64 < k {
-        return 4;
+        return Refusal::Room.number() as u32;
     }
     if out.len() < 64 {
-        return 4;
+        return Refusal::Room.number() as u32;
     }
     if (out.len() - 64) / 128 < k {
-        return 4;
+        return Refusal::Room.number() as u32;
     }
     let n = report_text::put_report(out, findings, total, k);
     *size = n as u64;
@@ -33,7 +35,7 @@ pub extern "C" fn lenoshale_run(input: &[u8], out: &mut [u8], size: &mut u64) ->
     ensures { RunExport input.now out.old out.new size.old size.new result }
 {
     if out.len() < 65600 {
-        return 4;
+        return Refusal::Room.number() as u32;
     }
     let n = program::run(input, out);
     *size = n as u64;

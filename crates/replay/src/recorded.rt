@@ -118,6 +118,7 @@ fn counted(rt: &impl Print, t: Tally, s: ways::Sought) -> io::Result<Tally> {
 fn replay(rt: &impl Print, s: &[u8], before: Tally) -> io::Result<Tally> {
     let mut t = before;
     let mut rest = s;
+    // no `for`: how long one is stands in it
     while !rest.is_empty() {
         let Some((e, behind)) = split_entry(rest) else {
             return counted(rt, t, ways::Sought::unlike());
@@ -175,6 +176,7 @@ fn split_pin(s: &[u8]) -> Option<(Pin<'_>, &[u8])>
 // The pins of a list, one after the other.
 fn replay_pins(rt: &impl Print, s: &[u8]) -> io::Result<()> {
     let mut rest = s;
+    // no `for`: how long one is stands in it
     while !rest.is_empty() {
         let Some((pin, behind)) = split_pin(rest) else {
             return test_support::tell_agrees(rt, b"a pin cut short", false);
