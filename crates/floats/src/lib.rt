@@ -1,4 +1,4 @@
-// Floats: the square root of IEEE 754, absolute value, the larger of two, bits and bytes.
+// Floats: the square root of IEEE 754, the larger of two, bits and bytes.
 #![tactic(auto)]
 
 ghost use Rattle.std.specs.Prelude.{◌≡◌, ℕ, ◌+◌, ◌*◌, ◌-◌, ◌%◌, ◌^◌, ◌≤◌, ◌<◌, length};
@@ -7,7 +7,7 @@ ghost use Rattle.std.proofs.lemmas.List.Edits.{sets};
 ghost use Rattle.std.specs.Float.{binary64};
 ghost use Rattle.std.specs.Float.Ieee.{of_bits, to_bits, lt};
 ghost use Rattle.laws.specs.Bytes.{number, bytes};
-ghost use Rattle.floats.specs.Floats.{absolute_of, larger_of, float_of, float_bytes};
+ghost use Rattle.floats.specs.Floats.{larger_of, float_of, float_bytes};
 ghost use Rattle.floats.specs.Root.{root_of_units};
 ghost use Rattle.floats.specs.Root as Spec;
 ghost use Rattle.refusals.specs.Told.{told};

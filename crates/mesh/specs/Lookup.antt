@@ -38,7 +38,7 @@ lookup_table m raw welded f =
     ∷ (12, face_off m f)
     ∷ [])
 
--- what the companion operation answers: the number, 0 for none
+-- why the lookup is refused, which its companion answers: the number, 0 for none
 unfoldable pub lookup_refusal : Model → List ℕ → List ℕ → ℕ → ℕ
 lookup_refusal m raw welded f = refusal (lookup_table m raw welded f)
 

@@ -100,7 +100,7 @@ fn note_ring(t: RunTally, len: usize) -> RunTally
 }
 
 // A PHED's rings, one by one. A run that is too long is a ring.
-pub fn tally_runs(words: &[u32]) -> RunTally
+fn tally_runs(words: &[u32]) -> RunTally
     requires { length words.now < 4294967296 }
     ensures { RunsCounted words.now result }
 {
@@ -173,7 +173,7 @@ fn tally_phed(words: &[u32]) -> RunTally
 }
 
 // A cell's word count and rings, by its kind.
-pub fn tally_kind(kind: Kind, words: &[u32]) -> RunTally
+fn tally_kind(kind: Kind, words: &[u32]) -> RunTally
     requires { length words.now < 4294967296 }
     ensures { KindCounted (cell_with (kind_number kind) words.now) result }
 {

@@ -1,4 +1,4 @@
-// The model file: 32-byte records, read into lent lists and written from them.
+// The model file: the letters of its 32-byte records, the stages of a file, and what it holds besides the lists.
 #![tactic(auto)]
 
 ghost use Rattle.model_file.specs.Letters.{LetterRead};

@@ -185,7 +185,6 @@ fn merge_runs(work: &mut [u32], at: index::Places, lo: usize, runs: &mut Merge) 
 {
     let found = at.found;
     let mut n = 0;
-    // no range: each turn goes on to the lowest face that is left
     let mut g = merge::lowest(&work[..found], runs.count, &runs.from, &runs.to, at.faces);
     // no `for`: the next face is the lowest that any run has next
     while g < at.faces {
