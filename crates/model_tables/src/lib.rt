@@ -173,11 +173,25 @@ pub fn build_tables(model: &Accepted, work: &mut [u32]) -> Layout
     let m = model.model;
     let cells = m.kinds.len();
     let nodes = m.node_count();
-    let l = plan(model.ring_words, model.faces, cells, nodes, m.words.len(), 0);
+    let l = plan(
+        model.ring_words,
+        model.faces,
+        cells,
+        nodes,
+        m.words.len(),
+        0,
+    );
     put_weld(model, work);
     put_rings(model, work, l);
     put_marks(model, work, l);
     let k = put_nodes(work, l);
     clear_scratch(work, l);
-    plan(model.ring_words, model.faces, cells, nodes, m.words.len(), k)
+    plan(
+        model.ring_words,
+        model.faces,
+        cells,
+        nodes,
+        m.words.len(),
+        k,
+    )
 }
