@@ -31,8 +31,8 @@ module _ (findings : List ℕ) (total kept : ℕ) (out : List ℕ) (size : ℕ) 
       go (inl a) = rw (lt-ltb (length findings) (64 * kept) a)
       go (inr a) = rw (le-ltb (length findings) (64 * kept) a, lt-ltb (length out) (text_room kept) h)
 
-  pub report_short : (length findings < 64 * kept) ⊎ (length out < text_room kept) → ReportExport findings total kept out out size size 4
-  report_short h = let e = short h in record { size_is = record { answered = sym e; lent_is = rw e }; out_is = rw e }
+  pub report_short : (r : ℕ) → r ≡ 4 → (length findings < 64 * kept) ⊎ (length out < text_room kept) → ReportExport findings total kept out out size size r
+  report_short r is h = let e = short h in record { size_is = record { answered = is ∙ sym e; lent_is = rw e }; out_is = rw e }
 
   -- else the text
   pub report_done : (out' : List ℕ) (n : ℕ) → 64 * kept ≤ length findings → text_room kept ≤ length out
@@ -45,10 +45,10 @@ module _ (findings : List ℕ) (total kept : ℕ) (out : List ℕ) (size : ℕ) 
 
 module _ (input out : List ℕ) (size : ℕ) where
   -- too little room
-  pub run_short : length out < text_room program_records → RunExport input out out size size 4
-  run_short h =
+  pub run_short : (r : ℕ) → r ≡ 4 → length out < text_room program_records → RunExport input out out size size r
+  run_short r is h =
       let e : run_refusal out ≡ 4 = rw (lt-ltb (length out) (text_room program_records) h) in
-      record { size_is = record { answered = sym e; lent_is = rw e }; out_is = rw e }
+      record { size_is = record { answered = is ∙ sym e; lent_is = rw e }; out_is = rw e }
 
   -- else the output
   pub run_done : (out' : List ℕ) (n : ℕ) → text_room program_records ≤ length out → Stored out 0 (output input) out' n → n ≤ length out → RunExport input out out' size n 0

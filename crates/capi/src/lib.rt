@@ -1,5 +1,5 @@
 // The operations for programs in C and Rust: a slice is a pointer and a length, an out-parameter a pointer.
-// Each answers 0 or the refusal's number; at a refusal nothing is written.
+// Each but the version answers 0 or the refusal's number; at a refusal nothing is written.
 #![tactic(auto)]
 
 ghost use Rattle.std.specs.Prelude.{◌≡◌};
