@@ -11,8 +11,8 @@
  *
  * A float that is read from a file or lent may be a NaN of any pattern: every NaN is taken for the one NaN. No accepted model has one.
  *
- * Stack, in bytes, the most that was measured on the largest models (tools/bench/stack.sh, rattle-kit-13f): run 188,584; face_owners
- * 4,088; check 3,328; fill_ring_lists 1,456; weld 1,344; area_test 1,160; root 920; each other function under 500. */
+ * Stack, in bytes, the most that was measured on the largest models (tools/bench/stack.sh, rattle-kit-13f): run 188,776; face_owners
+ * 4,216; check 3,472; fill_ring_lists 1,536; weld 1,408; area_test 1,160; root 920; each other function under 500. */
 #ifndef LENOSHALE_H
 #define LENOSHALE_H
 
