@@ -12,7 +12,7 @@ use Rattle.laws.specs.Lists.{each, sort, eql}
 use Rattle.laws.proofs.Tests.{tested}
 use Rattle.mesh.specs.Model.{Raw}
 use Rattle.mesh.specs.Rings.{rings_of}
-use Rattle.rings.proofs.Putting.{Putting, putting_start, putting_next, putting_end}
+use Rattle.rings.proofs.Putting.{Putting, putting_start, putting_next}
 use Rattle.owners.specs.Holding.{holders, held}
 use Rattle.owners.specs.Noted.{Noted}
 use Rattle.owners.specs.declared.Holders.{Holders}
@@ -56,9 +56,6 @@ noting_next {s = s} p now later s' is q =
       same_key = q.same_key ∙ p.same_key;
       putting = putting_next p.putting (now _) later is s'.owners.now s'.count n.put;
     }
-
-pub noting_end : {s₀ s : Holders} {all rest : List ℕ} → Noting s₀ s all rest → rest ≡ [] → Noted all s₀ s
-noting_end p e = record { same_reference = p.same_reference; same_key = p.same_key; put = putting_end p.putting e }
 
 -- the next cell's, and those behind them
 pub held_next : (key : List ℕ) (i k j : ℕ) (c : Raw) (cs rest : List Raw) → rest ≡ c ∷ cs → i ≡ k → j ≡ k + 1 → held key k rest ≡ holders key i (rings_of c) ++ held key j cs
