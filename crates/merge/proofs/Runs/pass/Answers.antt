@@ -1,4 +1,4 @@
--- `merge::pass` meets its contract. The first i runs are passed: their places are stored, the others as before.
+-- `merge::Runs::pass` meets its contract. The first i runs are passed: their places are stored, the others as before.
 use Prim.Native.Nat.{ℕ, ◌+◌, ◌≤◌}
 use mathlib.Core.Path.{◌≡◌, refl, sym, ap, ◌∙◌}
 use mathlib.Core.List.{List, [], ◌∷◌, ◌++◌, map, map-append}
@@ -15,7 +15,7 @@ use Rattle.laws.proofs.ListLaws.{up_from_snoc, keep_append, keep-length, length-
 use Rattle.counting.proofs.CountLaws.{length_numbered}
 use mir.Val.{bool_byte}
 use Rattle.merge.specs.Runs.{head, stands, next}
-use Rattle.merge.proofs.pass.Goals as goal
+use Rattle.merge.proofs.Runs.pass.Goals as goal
 
 -- at most one
 one_le : (b : Bool) → bool_byte b ≤ 1
@@ -65,15 +65,21 @@ pub overflow_add-n : goal.overflow_add-n
 overflow_add-n c =
     let a = c.args in
     let l = c.loop-i in
-    omega (arith, c.requires.ends.0, l.invariant.0, keep-length (stands a.base.now a.from.now a.to.now a.g) (up_from 0 l.i), length-up_from 0 l.i, one_le c.pass_one.result)
+    omega (arith, c.requires.ends.0, l.invariant.0, keep-length (stands a.base.now a.self.now.from a.self.now.to a.g) (up_from 0 l.i), length-up_from 0 l.i, one_le c.pass_one.result)
 
 pub loop-i-preserved : goal.loop-i-preserved
 loop-i-preserved c =
-    let a = c.args in
-    let l = c.loop-i in (
+    let b = c.args.base.now in
+    let r = c.args.self.now in
+    let g = c.args.g in
+    let l = c.loop-i in
+    let p = c.pass_one.ensures in
+    let here = l.invariant.3 in (
       ap (λ (m : ℕ). m + c.from-n.result) l.invariant.0
-          ∙ ap (λ (m : ℕ). length (keep (stands a.base.now a.from.now a.to.now a.g) (up_from 0 l.i)) + m)
-          (c.from-n.ensures ∙ ap bool_byte (c.pass_one.ensures.value ∙ stands_same a.base.now a.from.now a.to.now a.g l.i l.from l.invariant.1))
-          ∙ sym (counted (stands a.base.now a.from.now a.to.now a.g) l.i),
-      c.pass_one.ensures.from_after ∙ stored a.base.now a.from.now a.to.now a.g l.i l.from l.invariant.1,
+          ∙ ap (λ (m : ℕ). length (keep (stands b r.from r.to g) (up_from 0 l.i)) + m)
+          (c.from-n.ensures ∙ ap bool_byte (p.value ∙ ap (λ (t : List ℕ). stands b l.self.from t g l.i) here ∙ stands_same b r.from r.to g l.i l.self.from l.invariant.1))
+          ∙ sym (counted (stands b r.from r.to g) l.i),
+      p.from ∙ ap (λ (t : List ℕ). set l.self.from l.i (next b l.self.from t g l.i)) here ∙ stored b r.from r.to g l.i l.self.from l.invariant.1,
+      p.others.0 ∙ l.invariant.2,
+      p.others.1 ∙ here,
     )
