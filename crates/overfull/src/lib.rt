@@ -7,7 +7,6 @@ ghost use Rattle.geometry.specs.Points.{points_of, centre_of};
 ghost use Rattle.geometry.specs.Coordinates.{node_count};
 ghost use Rattle.index.specs.Faces.{input, base};
 ghost use Rattle.index.specs.Read.{set_of};
-ghost use Rattle.merge.specs.Runs.{rest};
 ghost use Rattle.triple_keys.specs.Keys.{Keyed};
 ghost use Rattle.layout.specs.Tables.{key_row, Faced, Standing};
 ghost use Rattle.layout.specs.ByCell.{over_face, over_cell};
@@ -16,12 +15,12 @@ ghost use Rattle.layout.specs.Kept.{KeptAny};
 
 use records::{Kind, Record, Sink};
 
-// How many faces with one key are met, and the second of them; before there is one, the face that is asked for.
+// How many faces with one key are met, and the second of them, once there is one.
 // No Option for 'none counts': less than three and none are the same to the one who asks, that there is no finding.
-#[derive(Clone, Copy)]
+#[derive(Clone, Copy, Default)]
 struct Tally {
     count: usize,
-    second: usize,
+    second: Option<usize>,
 }
 
 // Faces g and h have the same key.
@@ -44,16 +43,8 @@ fn rarest(ix: &index::Index, g: usize) -> usize
     ensures { elem result (set_of ix.now g) ≡ true }
 {
     let keys = ix.set(g);
-    let mut v = keys[0] as usize;
-    let mut least = ix.list_length(v);
-    for &u in &keys[1..] {
-        let m = ix.list_length(u as usize);
-        if m < least {
-            v = u as usize;
-            least = m;
-        }
-    }
-    v
+    let rarest = keys.iter().min_by_key(|&&v| ix.list_length(v as usize));
+    *rarest.unwrap() as usize
 }
 
 // Face h, which has the key, comes next.
@@ -61,37 +52,30 @@ fn note(s: Tally, h: usize) -> Tally
     requires { s.count < 2 ^ 32 }
     ensures { result ≡ noted h s }
 {
-    let n = s.count + 1;
-    if n == 2 {
+    let count = s.count + 1;
+    if count == 2 {
         return Tally {
-            count: n,
-            second: h,
+            count,
+            second: Some(h),
         };
     }
-    Tally {
-        count: n,
-        second: s.second,
-    }
+    Tally { count, ..s }
 }
 
-// Of the faces that stand from x to e those with g's key, counted; none where one comes before g.
-fn walk(work: &[u32], l: layout::Layout, g: usize, x: usize, e: usize) -> Tally
+// Of these faces those with g's key, counted; none where one comes before g.
+fn walk(work: &[u32], l: layout::Layout, g: usize, faces: &[u32]) -> Tally
     requires faced { Faced l (input l.at work.now) }
-    requires listed { Listed l work.now g x e }
-    ensures { result ≡ tallied g (keep (same_as l (input l.at work.now) g) (rest x e work.now)) (start g) }
+    requires listed { Listed l g faces.now }
+    ensures { result ≡ tallied g (keep (same_as l (input l.at work.now) g) faces.now) start }
 {
-    let none = Tally {
-        count: 0,
-        second: g,
-    };
-    let mut s = none;
-    for i in x..e {
-        let h = work[i] as usize;
+    let mut s = Tally::default();
+    for &h in faces {
+        let h = h as usize;
         if !same_key(work, l, g, h) {
             continue;
         }
         if h < g {
-            return none;
+            return Tally::default();
         }
         s = note(s, h);
     }
@@ -102,7 +86,7 @@ fn walk(work: &[u32], l: layout::Layout, g: usize, x: usize, e: usize) -> Tally
 fn count_alike(work: &[u32], l: layout::Layout, by: index::Places, g: usize) -> Tally
     requires standing { Standing l work.now }
     requires g_lt_faces { (g < l.at.faces) × Keyed l.at by (base l.at work.now) }
-    ensures { result ≡ tallied g (alike l (input l.at work.now) g) (start g) }
+    ensures { result ≡ tallied g (alike l (input l.at work.now) g) start }
 {
     let at = l.at;
     let found = at.found;
@@ -114,7 +98,7 @@ fn count_alike(work: &[u32], l: layout::Layout, by: index::Places, g: usize) -> 
     let slot = by.offsets + v;
     let x = by.index + work[slot] as usize;
     let e = by.index + work[slot + 1] as usize;
-    walk(work, l, g, x, e)
+    walk(work, l, g, &work[x..e])
 }
 
 // The centre of face g, over its key.
@@ -146,10 +130,12 @@ fn keep_face(
     ensures upper_bound { sink.new.count ≤ sink.old.count + 1 }
 {
     let s = count_alike(work, l, by, g);
+    let Some(second) = s.second else {
+        return;
+    };
     if s.count < 3 {
         return;
     }
-    let second = s.second;
     let r = Record {
         kind: Kind::Overfull as u8,
         first: c as u32,

@@ -62,7 +62,7 @@ returns c =
     let a = c.args in
     let r = c.requires in
     let v = c.rarest-v in
-    c.walk.ensures ∙ ap (λ (w : List ℕ). tallied a.g w (start a.g)) (all_alike a.l a.by a.work.now r.standing r.g_lt_faces.1 a.g r.g_lt_faces.0 v.result v.ensures _ _ refl refl)
+    c.walk.ensures ∙ ap (λ (w : List ℕ). tallied a.g w start) (all_alike a.l a.by a.work.now r.standing r.g_lt_faces.1 a.g r.g_lt_faces.0 v.result v.ensures _ _ refl refl)
 
 pub overflow_add-e : goal.overflow_add-e
 overflow_add-e c =
