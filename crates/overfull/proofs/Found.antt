@@ -10,7 +10,7 @@ use borrow.Author.Tests.{le-leb, lt-leb}
 use lib.Dec.{leb}
 use lib.ListN.{length, get_or, take, drop, length-map}
 use lib.Seq.{take_at, drop_at}
-use Rattle.std.specs.Prelude.{Option, Some, None}
+use Rattle.std.specs.Prelude.{Some, None}
 use Rattle.laws.specs.Lists.{only_if, any, keep, up_from, elem, sort, eql}
 use Rattle.laws.proofs.Tests.{tested, and_parts}
 use Rattle.laws.proofs.ListLaws.{any-map, keep-map, keep_append, keep-length, length-up_from, eql_self}

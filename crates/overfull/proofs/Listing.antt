@@ -4,7 +4,7 @@ use mathlib.Core.Path.{◌≡◌, sym, ap, ap₂, ◌∙◌, subst}
 use mathlib.Core.Bool.{true}
 use mathlib.Core.List.{List}
 use native.Mathlib.Omega.{arith}
-use lib.ListN.{length, get_or, take, drop, length-take}
+use lib.ListN.{length, get_or, drop, length-take}
 use lib.Seq.{get_or-take, get_or-drop}
 use Rattle.laws.specs.Lists.{keep, elem}
 use Rattle.laws.proofs.Stores.{region-take}
@@ -69,8 +69,15 @@ module _ (l : Layout) (q : Places) (w : List ℕ) (s : Standing l w) (kd : Keyed
           record {
             face = h;
             few =
-                omega (arith, length-take (y - x) (drop x w), x_is l.at q w room bs v low x y is_x is_y, e_is l.at q w room bs v low x y is_x is_y,
-                below_suc v S, below_words q b kd.indexed (suc v), kd.indexed.small.0);
+                omega (
+                  arith,
+                  length-take (y - x) (drop x w),
+                  x_is l.at q w room bs v low x y is_x is_y,
+                  e_is l.at q w room bs v low x y is_x is_y,
+                  below_suc v S,
+                  below_words q b kd.indexed (suc v),
+                  kd.indexed.small.0,
+                );
             faces = λ i k.
                 let n : i < y - x = omega (arith, k, length-take (y - x) (drop x w)) in
                 let f = all_faces l.at q w room bs v low x y is_x is_y (x + i) (omega arith) (omega (arith, n)) in

@@ -6,23 +6,22 @@ use lib.ListN.{get_or, drop}
 use Rattle.std.specs.Prelude.{Option}
 use native.Mathlib.Omega.{arith}
 use Rattle.laws.specs.Lists.{keep}
-use Rattle.index.specs.Faces.{input}
+use Rattle.layout.specs.Views.{faced_in}
 use Rattle.overfull.specs.declared.Tally.{Tally}
 use Rattle.overfull.specs.Alike.{same_as, start, tallied}
 use Rattle.overfull.proofs.Counted.{met, lower, kept_end, kept_same, kept_other}
 use Rattle.overfull.proofs.walk.Goals as goal
 
 pub same_key-requires : goal.same_key-requires
-same_key-requires c =
-    record { faced = c.requires.faced; g_lt_faces = (c.requires.listed.face, c.requires.listed.faces c.loop-h.h-index (omega arith)) }
+same_key-requires c = (c.requires.face, c.requires.faces c.loop-h.h-index (omega arith))
 
 pub note-s-requires : goal.note-s-requires
-note-s-requires c = omega (arith, c.loop-h.invariant.few, c.requires.listed.few)
+note-s-requires c = omega (arith, c.loop-h.invariant.few, c.requires.few)
 
 pub returns-then-h-g : goal.returns-then-h-g
 returns-then-h-g c =
     let a = c.args in
-    let p = same_as a.l (input a.l.at a.work.now) a.g in
+    let p = same_as a.t.now.layout.now (faced_in a.t.now) a.g in
     let o = c.loop-h in
     let h = get_or a.faces.now o.h-index 0 in
     let k = kept_same p o.h-index a.faces.now (omega arith) (sym c.same_key.ensures ∙ c.if-not-same_key.false) in
@@ -34,7 +33,7 @@ returns-then-h-g c =
 pub loop-h-preserved : goal.loop-h-preserved
 loop-h-preserved c =
     let a = c.args in
-    let p = same_as a.l (input a.l.at a.work.now) a.g in
+    let p = same_as a.t.now.layout.now (faced_in a.t.now) a.g in
     let o = c.loop-h in
     let h = get_or a.faces.now o.h-index 0 in
     let k = kept_same p o.h-index a.faces.now (omega arith) (sym c.same_key.ensures ∙ c.if-not-same_key.false) in
@@ -46,7 +45,7 @@ loop-h-preserved c =
 pub loop-h-preserved-then-not-same_key : goal.loop-h-preserved-then-not-same_key
 loop-h-preserved-then-not-same_key c =
     let a = c.args in
-    let p = same_as a.l (input a.l.at a.work.now) a.g in
+    let p = same_as a.t.now.layout.now (faced_in a.t.now) a.g in
     let o = c.loop-h in
     let k = kept_other p o.h-index a.faces.now (omega arith) (sym c.same_key.ensures ∙ c.if-not-same_key.true) in
     record { few = omega (arith, o.invariant.few); tallied_on = sym (ap (λ (r : List ℕ). tallied a.g r o.s) k) ∙ o.invariant.tallied_on }
@@ -54,6 +53,6 @@ loop-h-preserved-then-not-same_key c =
 pub returns : goal.returns
 returns c =
     let a = c.args in
-    let p = same_as a.l (input a.l.at a.work.now) a.g in
+    let p = same_as a.t.now.layout.now (faced_in a.t.now) a.g in
     let o = c.loop-h in
     sym (ap (λ (r : List ℕ). tallied a.g r o.s) (kept_end p o.h-index a.faces.now (omega arith))) ∙ o.invariant.tallied_on
