@@ -3,3 +3,5 @@ pub mod Tables
 pub mod ByCell
 pub mod Shown
 pub mod Kept
+pub mod Once
+pub mod Views

@@ -1,9 +1,17 @@
 // Where the tables of a model's faces, the index and the scratch of the check stand in its one lent work slice.
 #![tactic(auto)]
 
-ghost use Rattle.std.specs.Prelude.{◌≡◌, ◌+◌, ◌≤◌, ◌<◌, get_or, take};
+ghost use Rattle.std.specs.Prelude.{◌≡◌, ◌+◌, ◌≤◌, ◌<◌, length, get_or, take};
 ghost use Rattle.index.specs.Faces.{input, cell_of};
 ghost use Rattle.layout.specs.Tables.{first_of, Faced, Ringed};
+
+mod context; // what the passes over the tables take together
+mod rings; // the tables read while only those below the marks of bow-ties stand
+mod tables; // the tables read
+
+pub use context::Context;
+pub use rings::Rings;
+pub use tables::Tables;
 
 // The regions in their order, with the words of each: weld (nodes), rings (total), rows (faces + 1), firsts (cells + 1), then of the
 // pair search bows (cells) and cells (faces), keys (total), and again of the search starts, sets, offsets, index; second (the second
@@ -26,13 +34,21 @@ pub struct Layout {
     pub spare: usize,
 }
 
+// The number that a word of the tables holds.
+fn number_at(work: &[u32], place: usize) -> usize
+    requires { place < length work.now }
+    ensures { result ≡ get_or work.now place 0 }
+{
+    work[place] as usize
+}
+
 // Where the ring and the key of face g start, counted in words.
 pub fn row(work: &[u32], l: Layout, g: usize) -> usize
     requires faced { Faced l (input l.at work.now) }
     requires g_le_faces { g ≤ l.at.faces }
     ensures { (result ≡ get_or (input l.at work.now) (l.rows + g) 0) × (result ≤ l.total) }
 {
-    work[l.rows + g] as usize
+    Tables { work, layout: &l }.row(g)
 }
 
 // The number of the first face of cell c; for c past the last, of all faces.
@@ -41,7 +57,7 @@ pub fn first_face(work: &[u32], l: Layout, c: usize) -> usize
     requires c_bound { c ≤ l.at.cell_count }
     ensures { (result ≡ first_of l (input l.at work.now) c) × (result ≤ l.at.faces) }
 {
-    work[l.firsts + c] as usize
+    Tables { work, layout: &l }.first_face(c)
 }
 
 // The cell of face g.
@@ -50,14 +66,13 @@ pub fn cell_of(work: &[u32], l: Layout, g: usize) -> usize
     requires g_lt_faces { g < l.at.faces }
     ensures { (result ≡ cell_of l.at (input l.at work.now) g) × (result < l.at.cell_count) }
 {
-    work[l.at.cells + g] as usize
+    Tables { work, layout: &l }.cell_of(g)
 }
 
 // A row while the tables below the marks of bow-ties stand, and no more: where the ring of face g starts; for g past the last, where all end.
-// Apart from `row`, whose body is the same: one contract over both kinds of tables would take a ghost value, to be named at each call.
 pub fn ring_row(work: &[u32], l: Layout, g: usize) -> usize
     requires { Ringed l (take l.at.bows work.now) × (g ≤ l.at.faces) }
     ensures { (result ≡ get_or (take l.at.bows work.now) (l.rows + g) 0) × (result ≤ l.total) }
 {
-    work[l.rows + g] as usize
+    Rings { work, layout: &l }.row(g)
 }
