@@ -76,18 +76,7 @@ pub fn same_set(ix: &Index, lo: usize, g: usize) -> bool
     requires { (lo < ix.now.at.faces) × (g < ix.now.at.faces) }
     ensures { result ≡ eql (set_of ix.now lo) (set_of ix.now g) }
 {
-    let a = ix.set(lo);
-    let b = ix.set(g);
-    if a.len() != b.len() {
-        return false;
-    }
-    // a counted loop: with `a == b` the search by triples took a fifth longer on faces of six and twenty nodes
-    for i in 0..a.len() {
-        if a[i] != b[i] {
-            return false;
-        }
-    }
-    true
+    ascending::equal(ix.set(lo), ix.set(g))
 }
 
 // Face g, which has c nodes in common with lo, is a candidate.

@@ -32,9 +32,9 @@ module _ (i : Index) (lo : ℕ) (h : lo < i.at.faces) (list : List ℕ) (is : li
       let ns = set_of i lo in
       let F = sets zs 0 (map (λ n. i.at.index + below n S) ns) in
       let is-from : m.from ≡ F = from ∙ ap (λ (l : List ℕ). sets zs 0 (map (λ n. i.at.index + get_or i.base.now (i.at.offsets + n) 0) l)) is
-          ∙ ap (sets zs 0) (starts i.at i.base.now i.indexed lo h) in
+      ∙ ap (sets zs 0) (starts i.at i.base.now i.indexed lo h) in
       let is-to : m.to ≡ sets zs 0 (map (λ n. i.at.index + below (n + 1) S) ns) = to ∙ ap (λ (l : List ℕ). sets zs 0 (map (λ n. i.at.index + get_or i.base.now (i.at.offsets + n + 1) 0) l)) is
-          ∙ ap (sets zs 0) (ends i.at i.base.now i.indexed lo h) in
+      ∙ ap (sets zs 0) (ends i.at i.base.now i.indexed lo h) in
       subst (λ (j : ℕ). Runs i.at i.base.now lo j 0 m.from m.to) (sym (k ∙ ap length is))
       (subst (λ (l : List ℕ). Runs i.at i.base.now lo (length ns) 0 l m.to) (sym is-from)
       (subst (λ (l : List ℕ). Runs i.at i.base.now lo (length ns) 0 F l) (sym is-to)
