@@ -1,4 +1,4 @@
--- `triples::walk` meets its contract. A loop of Turns: the pieces are the hits among the faces.
+-- `triples::Seeking::walk` meets its contract. A loop of Turns: the pieces are the hits among the faces.
 use Prim.Native.Nat.{ℕ, ◌+◌, ◌≤◌, ◌<◌}
 use mathlib.Core.Path.{◌≡◌, refl, ap₂, subst}
 use mathlib.Core.List.{List, [], ◌∷◌}
@@ -13,8 +13,8 @@ use Rattle.seek.specs.Candidates.{shares}
 use Rattle.triples.specs.Hits.{Open, Added}
 use Rattle.triples.proofs.Adds.{Faces, Prog}
 use Rattle.triples.proofs.Turns.{held_start, held_open, held_base, held-length, held_read, held_next, held_end, of_rest, faces_kept}
-use Rattle.triples.proofs.walk.Invariants.{G}
-use Rattle.triples.proofs.walk.Goals as goal
+use Rattle.triples.proofs.Seeking.walk.Invariants.{G}
+use Rattle.triples.proofs.Seeking.walk.Goals as goal
 
 abbrev F : Places → List ℕ → ℕ → ℕ → List ℕ → List ℕ
 F p w lo g l = only_if (shares p (input p (base p w)) lo g) (g ∷ [])
@@ -61,20 +61,20 @@ module _ (p : Places) (lo n : ℕ) (w : List ℕ) (op : Open p lo n w) (s e : �
 pub loop-i-init : goal.loop-i-init
 loop-i-init c =
     let a = c.args in
-    start a.at a.lo a.n a.work.now c.requires.fact a.x a.e c.requires.e_le_found
+    start a.self.now.at a.self.now.lo a.n a.work.now c.requires.fact a.x a.e c.requires.e_le_found
 
 pub consider-n-requires-clause-fact : goal.consider-n-requires-clause-fact
 consider-n-requires-clause-fact c =
     let a = c.args in
     let l = c.loop-i in
-    more a.at a.lo a.n a.work.now c.requires.fact a.x a.e c.requires.e_le_found l.i l.n l.work l.invariant
+    more a.self.now.at a.self.now.lo a.n a.work.now c.requires.fact a.x a.e c.requires.e_le_found l.i l.n l.work l.invariant
 
 pub consider-n-requires-clause-g_lt_faces : goal.consider-n-requires-clause-g_lt_faces
 consider-n-requires-clause-g_lt_faces c =
     let a = c.args in
     let l = c.loop-i in
     let k = c.loop-i-test.true in
-    omega (arith, read a.at a.lo a.n a.work.now c.requires.fact a.x a.e c.requires.e_le_found l.i l.n l.work l.invariant k, c.requires.e_le_found.1 l.i l.auto.i k)
+    omega (arith, read a.self.now.at a.self.now.lo a.n a.work.now c.requires.fact a.x a.e c.requires.e_le_found l.i l.n l.work l.invariant k, c.requires.e_le_found.1 l.i l.auto.i k)
 
 pub loop-i-preserved : goal.loop-i-preserved
 loop-i-preserved c =
@@ -82,5 +82,5 @@ loop-i-preserved c =
     let l = c.loop-i in
     let k = c.loop-i-test.true in
     let f = c.consider-n in
-    let is = read a.at a.lo a.n a.work.now c.requires.fact a.x a.e c.requires.e_le_found l.i l.n l.work l.invariant k in
-    next a.at a.lo a.n a.work.now c.requires.fact a.x a.e c.requires.e_le_found l.i l.n l.work l.invariant k _ f.result f.new.work is f.ensures
+    let is = read a.self.now.at a.self.now.lo a.n a.work.now c.requires.fact a.x a.e c.requires.e_le_found l.i l.n l.work l.invariant k in
+    next a.self.now.at a.self.now.lo a.n a.work.now c.requires.fact a.x a.e c.requires.e_le_found l.i l.n l.work l.invariant k _ f.result f.new.work is f.ensures

@@ -1,4 +1,4 @@
--- `triples::walk_keys` meets its contract. A loop of Turns: the pieces are the candidates that have each key.
+-- `triples::Seeking::walk_keys` meets its contract. A loop of Turns: the pieces are the candidates that have each key.
 use Prim.Native.Nat.{ℕ, ◌+◌, ◌≤◌, ◌<◌}
 use mathlib.Core.Path.{◌≡◌, refl, sym, ap₂, subst}
 use mathlib.Core.List.{List}
@@ -10,8 +10,8 @@ use Rattle.merge.specs.Runs.{rest}
 use Rattle.triples.specs.Hits.{hits_by, Open, Added, Beside}
 use Rattle.triples.proofs.Adds.{Faces, Prog}
 use Rattle.triples.proofs.Turns.{held_start, held_open, held_base, held-length, held_read, held_next, held_end, faces_each, faces_hits}
-use Rattle.triples.proofs.walk_keys.Invariants.{G}
-use Rattle.triples.proofs.walk_keys.Goals as goal
+use Rattle.triples.proofs.Seeking.walk_keys.Invariants.{G}
+use Rattle.triples.proofs.Seeking.walk_keys.Goals as goal
 
 abbrev F : Places → Places → List ℕ → ℕ → ℕ → List ℕ → List ℕ
 F p q w lo v l = hits_by p q (base p w) lo v
@@ -56,13 +56,13 @@ module _ (p q : Places) (lo n : ℕ) (w : List ℕ) (op : Open p lo n w) (bs : B
 pub loop-i-init : goal.loop-i-init
 loop-i-init c =
     let a = c.args in
-    start a.at a.by a.lo a.n a.work.now c.requires.fact c.requires.beside.0 a.s a.e c.requires.beside.1
+    start a.self.now.at a.self.now.by a.self.now.lo a.n a.work.now c.requires.fact c.requires.beside.0 a.s a.e c.requires.beside.1
 
 pub walk_key-n-requires-clause-fact : goal.walk_key-n-requires-clause-fact
 walk_key-n-requires-clause-fact c =
     let a = c.args in
     let l = c.loop-i in
-    more a.at a.by a.lo a.n a.work.now c.requires.fact c.requires.beside.0 a.s a.e c.requires.beside.1 l.i l.n l.work l.invariant
+    more a.self.now.at a.self.now.by a.self.now.lo a.n a.work.now c.requires.fact c.requires.beside.0 a.s a.e c.requires.beside.1 l.i l.n l.work l.invariant
 
 pub walk_key-n-requires-clause-beside : goal.walk_key-n-requires-clause-beside
 walk_key-n-requires-clause-beside c =
@@ -73,8 +73,8 @@ walk_key-n-requires-clause-beside c =
     let op = c.requires.fact in
     let bs = c.requires.beside.0 in
     let h = c.requires.beside.1 in (
-      subst (Beside a.at a.by) (sym (same a.at a.by a.lo a.n w op bs a.s a.e h l.i l.n l.work l.invariant)) bs,
-      omega (arith, read a.at a.by a.lo a.n w op bs a.s a.e h l.i l.n l.work l.invariant k, c.requires.beside.2 l.i l.auto.i k),
+      subst (Beside a.self.now.at a.self.now.by) (sym (same a.self.now.at a.self.now.by a.self.now.lo a.n w op bs a.s a.e h l.i l.n l.work l.invariant)) bs,
+      omega (arith, read a.self.now.at a.self.now.by a.self.now.lo a.n w op bs a.s a.e h l.i l.n l.work l.invariant k, c.requires.beside.2 l.i l.auto.i k),
     )
 
 pub loop-i-preserved : goal.loop-i-preserved
@@ -87,4 +87,4 @@ loop-i-preserved c =
     let bs = c.requires.beside.0 in
     let h = c.requires.beside.1 in
     let f = c.walk_key-n in
-    next a.at a.by a.lo a.n w op bs a.s a.e h l.i l.n l.work l.invariant k _ f.result f.new.work (read a.at a.by a.lo a.n w op bs a.s a.e h l.i l.n l.work l.invariant k) f.ensures
+    next a.self.now.at a.self.now.by a.self.now.lo a.n w op bs a.s a.e h l.i l.n l.work l.invariant k _ f.result f.new.work (read a.self.now.at a.self.now.by a.self.now.lo a.n w op bs a.s a.e h l.i l.n l.work l.invariant k) f.ensures
