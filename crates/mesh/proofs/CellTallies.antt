@@ -1,6 +1,6 @@
 -- The pass over cells: what is judged and counted so far, and what is left.
 use Prim.Native.Nat.{ℕ, suc, ◌+◌, ◌-◌, ◌*◌, ◌≤◌, ◌<◌}
-use mathlib.Core.Path.{◌≡◌, sym, ap, ◌∙◌}
+use mathlib.Core.Path.{◌≡◌, refl, sym, ap, ◌∙◌}
 use mathlib.Core.Logic.{◌≢◌}
 use mathlib.Core.Bool.{Bool, false}
 use mathlib.Core.List.{List, [], ◌∷◌, ◌++◌, append_assoc}
@@ -10,6 +10,7 @@ use borrow.Author.Tests.{ltb-false}
 use lib.Dec.{ltb}
 use lib.ListN.{length, get_or, take, drop, length-append}
 use lib.Seq.{drop-cons, drop-drop}
+use Rattle.laws.specs.Limits.{cell_limit, word_limit}
 use Rattle.laws.specs.Lists.{any, each}
 use Rattle.laws.specs.Refusals.{refusal}
 use Rattle.laws.proofs.ListLaws.{each_append, any_append}
@@ -18,9 +19,11 @@ use Rattle.laws.proofs.Tests.{or_none}
 use Rattle.mesh.specs.Model.{Raw, cells_from}
 use Rattle.mesh.specs.Rings.{rings_of}
 use Rattle.mesh.specs.Acceptance.{ends_off, cell_table, cells_table}
-use Rattle.mesh.specs.Steps.{ring_total, cell_with}
-use Rattle.mesh.specs.Counted.{CellTallied}
+use Rattle.mesh.specs.Steps.{ring_total, cell_with, CellTallied}
+use Rattle.mesh.specs.Kinds.{kind_number}
 use Rattle.mesh.specs.declared.CellTally.{CellTally}
+use Rattle.mesh.specs.declared.kind.Kind.TheVariants.{Tet4}
+use Rattle.mesh.proofs.KindNumbers.{first_least}
 
 -- ---- ends in order
 
@@ -58,6 +61,11 @@ total_append a b = ap length (each_append (λ (r : List ℕ). r) a b) ∙ length
 abbrev pub words_in : List Raw → List ℕ
 words_in cs = each (λ c. c.words) cs
 
+-- no more cells and words than a model may have
+pub record Few (cs : List Raw) : Type 0 where
+  pub cells : length cs ≤ cell_limit
+  pub words : length (words_in cs) ≤ word_limit
+
 -- what is judged and counted before the cells that are left, with what they give, is all
 pub record Counting (n : ℕ) (cs rest : List Raw) (t : CellTally) (before : ℕ) : Type 0 where
   pub seen : List Raw
@@ -68,11 +76,17 @@ pub record Counting (n : ℕ) (cs rest : List Raw) (t : CellTally) (before : ℕ
   pub few : t.faces ≤ 6 * length seen + length (words_in seen)
   pub small : t.words ≤ 24 * length seen + length (words_in seen)
 
-pub counting_start : (n : ℕ) (cs rest : List Raw) (t : CellTally) → rest ≡ cs → t.faces ≡ 0 → t.words ≡ 0 → Counting n cs rest t 0
+-- no kind is below the first
+first_table : (n : ℕ) (cs : List Raw) → cells_table n (kind_number Tet4) cs ≡ cells_table n 0 cs
+unfolding cell_table
+first_table n [] = refl
+first_table n (c ∷ cs) = ap (λ (b : Bool). ((9, b) ∷ drop 1 (cell_table n 0 c)) ++ cells_table n c.kind cs) (first_least c.kind)
+
+pub counting_start : (n : ℕ) (cs rest : List Raw) (t : CellTally) → rest ≡ cs → t.faces ≡ 0 → t.words ≡ 0 → Counting n cs rest t (kind_number Tet4)
 counting_start n cs rest t is a b = record {
   seen = [];
   parts = is;
-  table = ap (λ (l : List Raw). refusal (cells_table n 0 l)) is;
+  table = ap refusal (first_table n rest) ∙ ap (λ (l : List Raw). refusal (cells_table n 0 l)) is;
   faces = omega (arith, a, ap (λ (l : List Raw). length (each rings_of l)) is);
   words = omega (arith, b, ap (λ (l : List Raw). ring_total (each rings_of l)) is);
   few = omega (arith, a);
@@ -82,6 +96,13 @@ counting_start n cs rest t is a b = record {
 -- the words of the first cells and of the others
 words_append : (a b : List Raw) → words_in (a ++ b) ≡ words_in a ++ words_in b
 words_append a b = each_append (λ (c : Raw). c.words) a b
+
+-- what is counted of few cells and words is not much
+pub counting_bound : {n : ℕ} {cs rest : List Raw} {t : CellTally} {before : ℕ} → Counting n cs rest t before → Few cs → (t.faces ≤ 360448) × (t.words ≤ 655360)
+counting_bound {n} {cs} {rest} {t} {before} r f =
+    let l = ap length (sym r.parts) ∙ length-append r.seen rest in
+    let w = ap (λ (x : List Raw). length (words_in x)) (sym r.parts) ∙ ap length (words_append r.seen rest) ∙ length-append (words_in r.seen) (words_in rest) in
+    (omega (arith, r.few, l, w, f.cells, f.words), omega (arith, r.small, l, w, f.cells, f.words))
 
 module _ {n : ℕ} {cs rest later : List Raw} {t : CellTally} {before : ℕ} (r : Counting n cs rest t before) (c : Raw) (is : rest ≡ c ∷ later) where
   words_are : words_in cs ≡ words_in r.seen ++ (c.words ++ words_in later)
@@ -97,6 +118,12 @@ module _ {n : ℕ} {cs rest later : List Raw} {t : CellTally} {before : ℕ} (r 
   pub next_length : length c.words ≤ length (words_in cs)
   next_length = omega (arith, ap length words_are, length-append (words_in r.seen) (c.words ++ words_in later), length-append c.words (words_in later))
 
+  -- the sums go on fitting
+  pub next_bound : (u : CellTally) → CellTallied c u → Few cs → (t.faces + u.faces < 4294967296) × (t.words + u.words < 4294967296)
+  next_bound u h f =
+      let b = counting_bound r f in
+      (omega (arith, b.0, h.few, next_length, f.words), omega (arith, b.1, h.small, next_length, f.words))
+
   -- a cell is refused, and so are the cells
   pub refused_here : refusal (cell_table n before c) ≢ 0 → refusal (cell_table n before c) ≡ refusal (cells_table n 0 cs)
   refused_here z =
@@ -105,8 +132,8 @@ module _ {n : ℕ} {cs rest later : List Raw} {t : CellTally} {before : ℕ} (r 
       ∙ r.table
 
   -- a cell passes
-  pub counting_next : (u v : CellTally) → refusal (cell_table n before c) ≡ 0 → CellTallied c u → v.faces ≡ t.faces + u.faces → v.words ≡ t.words + u.words → Counting n cs later v c.kind
-  counting_next u v z p a b =
+  pub counting_next : (u v : CellTally) (k : ℕ) → k ≡ c.kind → refusal (cell_table n before c) ≡ 0 → CellTallied c u → v.faces ≡ t.faces + u.faces → v.words ≡ t.words + u.words → Counting n cs later v k
+  counting_next u v k i z p a b =
       let w = ap length (words_append r.seen (c ∷ [])) ∙ length-append (words_in r.seen) (words_in (c ∷ [])) in
       let w1 = length-append c.words [] in
       let l = length-append r.seen (c ∷ []) in
@@ -114,7 +141,8 @@ module _ {n : ℕ} {cs rest later : List Raw} {t : CellTally} {before : ℕ} (r 
         seen = r.seen ++ (c ∷ []);
         parts = append_assoc r.seen (c ∷ []) later ∙ ap (λ (x : List Raw). r.seen ++ x) (sym is) ∙ r.parts;
         table =
-            sym (refusal_second (cell_table n before c) (cells_table n c.kind later) (nine n before c) z)
+            ap (λ (j : ℕ). refusal (cells_table n j later)) i
+            ∙ sym (refusal_second (cell_table n before c) (cells_table n c.kind later) (nine n before c) z)
             ∙ ap (λ (x : List Raw). refusal (cells_table n before x)) (sym is)
             ∙ r.table;
         faces = omega (arith, a, p.faces, r.faces, ap (λ (x : List Raw). length (each rings_of x)) is, length-append (rings_of c) (each rings_of later));
@@ -122,14 +150,6 @@ module _ {n : ℕ} {cs rest later : List Raw} {t : CellTally} {before : ℕ} (r 
         few = omega (arith, a, p.few, r.few, w, w1, l);
         small = omega (arith, b, p.small, r.small, w, w1, l);
       }
-
--- what is counted is bounded by all cells and words
-pub counting_bound : {n : ℕ} {cs rest : List Raw} {t : CellTally} {before : ℕ} → Counting n cs rest t before
-    → (t.faces ≤ 6 * length cs + length (words_in cs)) × (t.words ≤ 24 * length cs + length (words_in cs))
-counting_bound {n} {cs} {rest} {t} {before} r =
-    let l = ap length (sym r.parts) ∙ length-append r.seen rest in
-    let w = ap (λ (x : List Raw). length (words_in x)) (sym r.parts) ∙ ap length (words_append r.seen rest) ∙ length-append (words_in r.seen) (words_in rest) in
-    (omega (arith, r.few, l, w), omega (arith, r.small, l, w))
 
 -- no cell is left
 pub counting_end : {n : ℕ} {cs rest : List Raw} {t : CellTally} {before : ℕ} → Counting n cs rest t before → rest ≡ []
