@@ -1,6 +1,6 @@
 -- The pass over cells: what is judged and counted so far, and what is left.
 use Prim.Native.Nat.{ℕ, suc, ◌+◌, ◌-◌, ◌*◌, ◌≤◌, ◌<◌}
-use mathlib.Core.Path.{◌≡◌, refl, sym, ap, ◌∙◌}
+use mathlib.Core.Path.{◌≡◌, sym, ap, ◌∙◌}
 use mathlib.Core.Logic.{◌≢◌}
 use mathlib.Core.Bool.{Bool, false}
 use mathlib.Core.List.{List, [], ◌∷◌, ◌++◌, append_assoc}
@@ -20,10 +20,7 @@ use Rattle.mesh.specs.Model.{Raw, cells_from}
 use Rattle.mesh.specs.Rings.{rings_of}
 use Rattle.mesh.specs.Acceptance.{ends_off, cell_table, cells_table}
 use Rattle.mesh.specs.Steps.{ring_total, cell_with, CellTallied}
-use Rattle.mesh.specs.Kinds.{kind_number}
 use Rattle.mesh.specs.declared.CellTally.{CellTally}
-use Rattle.mesh.specs.declared.kind.Kind.TheVariants.{Tet4}
-use Rattle.mesh.proofs.KindNumbers.{first_least}
 
 -- ---- ends in order
 
@@ -76,17 +73,11 @@ pub record Counting (n : ℕ) (cs rest : List Raw) (t : CellTally) (before : ℕ
   pub few : t.faces ≤ 6 * length seen + length (words_in seen)
   pub small : t.words ≤ 24 * length seen + length (words_in seen)
 
--- no kind is below the first
-first_table : (n : ℕ) (cs : List Raw) → cells_table n (kind_number Tet4) cs ≡ cells_table n 0 cs
-unfolding cell_table
-first_table n [] = refl
-first_table n (c ∷ cs) = ap (λ (b : Bool). ((9, b) ∷ drop 1 (cell_table n 0 c)) ++ cells_table n c.kind cs) (first_least c.kind)
-
-pub counting_start : (n : ℕ) (cs rest : List Raw) (t : CellTally) → rest ≡ cs → t.faces ≡ 0 → t.words ≡ 0 → Counting n cs rest t (kind_number Tet4)
+pub counting_start : (n : ℕ) (cs rest : List Raw) (t : CellTally) → rest ≡ cs → t.faces ≡ 0 → t.words ≡ 0 → Counting n cs rest t 0
 counting_start n cs rest t is a b = record {
   seen = [];
   parts = is;
-  table = ap refusal (first_table n rest) ∙ ap (λ (l : List Raw). refusal (cells_table n 0 l)) is;
+  table = ap (λ (l : List Raw). refusal (cells_table n 0 l)) is;
   faces = omega (arith, a, ap (λ (l : List Raw). length (each rings_of l)) is);
   words = omega (arith, b, ap (λ (l : List Raw). ring_total (each rings_of l)) is);
   few = omega (arith, a);
@@ -132,8 +123,8 @@ module _ {n : ℕ} {cs rest later : List Raw} {t : CellTally} {before : ℕ} (r 
       ∙ r.table
 
   -- a cell passes
-  pub counting_next : (u v : CellTally) (k : ℕ) → k ≡ c.kind → refusal (cell_table n before c) ≡ 0 → CellTallied c u → v.faces ≡ t.faces + u.faces → v.words ≡ t.words + u.words → Counting n cs later v k
-  counting_next u v k i z p a b =
+  pub counting_next : (u v : CellTally) → refusal (cell_table n before c) ≡ 0 → CellTallied c u → v.faces ≡ t.faces + u.faces → v.words ≡ t.words + u.words → Counting n cs later v c.kind
+  counting_next u v z p a b =
       let w = ap length (words_append r.seen (c ∷ [])) ∙ length-append (words_in r.seen) (words_in (c ∷ [])) in
       let w1 = length-append c.words [] in
       let l = length-append r.seen (c ∷ []) in
@@ -141,8 +132,7 @@ module _ {n : ℕ} {cs rest later : List Raw} {t : CellTally} {before : ℕ} (r 
         seen = r.seen ++ (c ∷ []);
         parts = append_assoc r.seen (c ∷ []) later ∙ ap (λ (x : List Raw). r.seen ++ x) (sym is) ∙ r.parts;
         table =
-            ap (λ (j : ℕ). refusal (cells_table n j later)) i
-            ∙ sym (refusal_second (cell_table n before c) (cells_table n c.kind later) (nine n before c) z)
+            sym (refusal_second (cell_table n before c) (cells_table n c.kind later) (nine n before c) z)
             ∙ ap (λ (x : List Raw). refusal (cells_table n before x)) (sym is)
             ∙ r.table;
         faces = omega (arith, a, p.faces, r.faces, ap (λ (x : List Raw). length (each rings_of x)) is, length-append (rings_of c) (each rings_of later));

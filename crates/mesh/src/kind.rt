@@ -4,7 +4,7 @@ ghost use Rattle.mesh.specs.Kinds.{KindRead};
 use refusals::Refusal;
 
 // In the order of `ElementType`, under the numbers of a model's list of kinds.
-#[derive(Clone, Copy, Debug, PartialEq, Eq, PartialOrd, Ord)]
+#[derive(Clone, Copy, Debug, PartialEq, Eq)]
 pub enum Kind {
     Tet4 = 1,
     Hex8 = 2,

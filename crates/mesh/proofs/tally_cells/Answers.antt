@@ -88,7 +88,7 @@ loop-cell-preserved c =
     let x = raw c.in-Some.cell in
     let h = counted_after {n = c.args.nodes} c.in_ok-kind.kind {c = x} c.in_ok-kind.ensures c.in_ok-t.ensures in
     let z = told_ok {A = CellTally} {B = Unit {0}} _ c.in_ok-t.t _ _ h.answered in
-    counting_next c.loop-cell.invariant x c.in-Some.ensures.steps c.in_ok-t.t _ _ c.in_ok-kind.ensures.0 z.0 h.tallied refl refl
+    counting_next c.loop-cell.invariant x c.in-Some.ensures.steps c.in_ok-t.t _ z.0 h.tallied refl refl
 
 pub returns : goal.returns
 returns c =
