@@ -9,19 +9,15 @@ use lib.Dec.{leb, ltb, eqb}
 use lib.ListN.{length}
 use Rattle.laws.specs.Lists.{any}
 use Rattle.laws.specs.Limits.{cell_limit, word_limit, flag_limit}
-use Rattle.laws.specs.Refusals.{refusal}
 use Rattle.laws.proofs.Tests.{or_none, and_parts}
 use Rattle.laws.proofs.ListLaws.{any_append}
-use Rattle.laws.proofs.Tables.{reason, Numbered, numbered_append, clear_refusal, refusal_clear, refusal_end}
+use Rattle.laws.proofs.Tables.{reason, Numbered, numbered_append, clear_refusal, refusal_clear}
 use Rattle.geometry.specs.Coordinates.{node_count, count_off, tolerance_off, coordinates_off}
 use Rattle.mesh.specs.Model.{Model, Raw, PHED, ascending, cells_of}
 use Rattle.mesh.specs.Acceptance.{ends_off, shape_off, kind_off, count_wrong, node_off, cell_table, cells_table, mesh_table, model_table, model_refusal}
-use Rattle.mesh.proofs.ModelTable.{nines}
+use Rattle.mesh.proofs.ModelTable.{numbers_mesh}
 
 -- every row of a model has a number
-pub numbers_mesh : (m : Model) → Numbered (mesh_table m)
-numbers_mesh m = (λ e. omega arith, (λ e. omega arith, (λ e. omega arith, (λ e. omega arith, nines (node_count m.coords) 0 (cells_of m)))))
-
 pub numbers_model : (m : Model) → Numbered (model_table m)
 numbers_model m = numbered_append (mesh_table m) _ (numbers_mesh m) (λ e. omega arith, tt)
 
@@ -29,11 +25,6 @@ numbers_model m = numbered_append (mesh_table m) _ (numbers_mesh m) (λ e. omega
 pub accepted_clear : (m : Model) → model_refusal m ≡ 0 → any reason (model_table m) ≡ false
 unfolding model_refusal
 accepted_clear m e = refusal_clear (model_table m) (numbers_model m) e
-
--- with flags that pass, the mesh alone is refused or not
-pub mesh_refusal : (m : Model) → ltb flag_limit m.flags ≡ false → refusal (mesh_table m) ≡ model_refusal m
-unfolding model_refusal
-mesh_refusal m h = sym (refusal_end (mesh_table m) ((10, ltb flag_limit m.flags) ∷ []) (rw h))
 
 -- ---- cells
 

@@ -1,11 +1,13 @@
 -- A cell by its kind: its word count and its rings; and what is judged of it.
-use Prim.Native.Nat.{ℕ}
+use Prim.Native.Nat.{ℕ, ◌≤◌}
+use Rattle.std.specs.Prelude.{Option, None, is_none, IfSome}
+use Rattle.std.proofs.lemmas.Option.{IfSome_then}
 use mathlib.Core.Path.{◌≡◌, refl, sym, ap, ◌∙◌, subst}
 use mathlib.Core.Logic.{◌≢◌, ◌⊎◌, inl, inr}
 use mathlib.Core.Bool.{Bool, true, false, not, ◌&&◌, ◌||◌, false≢true}
 use mathlib.Core.List.{List, [], ◌∷◌}
 use native.Mathlib.Omega.{arith}
-use borrow.Author.Tests.{ltb-false, eqb-true, eqb-false, le-ltb}
+use borrow.Author.Tests.{ltb-false, eqb-true, eqb-false}
 use lib.Dec.{leb, ltb, eqb}
 use lib.ListN.{length, take, drop, take-append-drop}
 use Rattle.laws.specs.Lists.{any}
@@ -15,45 +17,32 @@ use Rattle.laws.proofs.Tests.{tested, clash, or_none}
 use Rattle.mesh.specs.Model.{Raw, TET4, PHED}
 use Rattle.mesh.specs.Rings.{rings_of}
 use Rattle.mesh.specs.Acceptance.{kind_off, count_wrong, node_off, cell_table}
-use Rattle.mesh.specs.Steps.{cell_with, RunsCounted, KindCounted}
-use Rattle.mesh.specs.declared.RunTally.{RunTally}
+use Rattle.mesh.specs.Steps.{ring_total, cell_with, RunsCounted, KindCounted}
+use Rattle.mesh.specs.declared.CellTally.{CellTally}
 
 -- ---- counts
 
--- a cell of a fixed number of words: whether it has them, its faces and its ring words
-pub record Fixed (n wanted f w : ℕ) (t : RunTally) : Type 0 where
-  pub off : t.long ≡ not (eqb n wanted)
-  pub faces : t.faces ≡ f
-  pub words : t.words ≡ w
+-- a cell of a kind that has so many words, faces and ring words
+pub fixed : (c : Raw) (wanted f w : ℕ) (r : Option CellTally) → count_wrong c ≡ not (eqb (length c.words) wanted) → length (rings_of c) ≡ f → ring_total (rings_of c) ≡ w → f ≤ 6 → w ≤ 24
+    → is_none r ≡ not (eqb (length c.words) wanted) → IfSome r (λ t. (t.faces ≡ f) × (t.words ≡ w)) → KindCounted c r
+fixed c wanted f w r o a b h k n t = record {
+  off = n ∙ sym o;
+  tallied =
+      IfSome_then r t
+      (λ x e. record { faces = e.0 ∙ sym a; words = e.1 ∙ sym b; few = omega (arith, e.0); small = omega (arith, e.1) });
+}
 
-pub tetrahedron : (k : ℕ) (ws : List ℕ) (t : RunTally) → k ≡ 1 → Fixed (length ws) 4 4 12 t → KindCounted (cell_with k ws) t
+-- a PHED that has words
+pub polyhedron : (ws : List ℕ) (r : Option CellTally) → eqb (length ws) 0 ≡ false → RunsCounted ws r → KindCounted (cell_with 4 ws) r
 unfolding rings_of
-tetrahedron k ws t e f =
-    subst (λ (j : ℕ). KindCounted (cell_with j ws) t) (sym e)
-    (record { off = f.off; faces = f.faces; words = f.words; few = omega (arith, f.faces); small = omega (arith, f.words) })
+polyhedron ws r e h = record {
+  off = rw e h.long;
+  tallied = IfSome_then r h.tallied (λ x t. record { faces = t.faces; words = t.words; few = omega (arith, t.few); small = omega (arith, t.small) });
+}
 
-pub hexahedron : (k : ℕ) (ws : List ℕ) (t : RunTally) → k ≡ 2 → Fixed (length ws) 8 6 24 t → KindCounted (cell_with k ws) t
-unfolding rings_of
-hexahedron k ws t e f =
-    subst (λ (j : ℕ). KindCounted (cell_with j ws) t) (sym e)
-    (record { off = f.off; faces = f.faces; words = f.words; few = omega (arith, f.faces); small = omega (arith, f.words) })
-
-pub wedge : (k : ℕ) (ws : List ℕ) (t : RunTally) → k ≡ 3 → Fixed (length ws) 6 5 18 t → KindCounted (cell_with k ws) t
-unfolding rings_of
-wedge k ws t e f =
-    subst (λ (j : ℕ). KindCounted (cell_with j ws) t) (sym e)
-    (record { off = f.off; faces = f.faces; words = f.words; few = omega (arith, f.faces); small = omega (arith, f.words) })
-
-pub polyhedron : (ws : List ℕ) (t u : RunTally) → RunsCounted ws t → u.long ≡ (eqb (length ws) 0 || t.long) → u.faces ≡ t.faces → u.words ≡ t.words → KindCounted (cell_with 4 ws) u
-unfolding rings_of
-polyhedron ws t u r a b c =
-    record {
-      off = a ∙ ap (λ (x : Bool). eqb (length ws) 0 || x) r.long;
-      faces = b ∙ r.faces;
-      words = c ∙ r.words;
-      few = omega (arith, b, r.few);
-      small = omega (arith, c, r.small);
-    }
+-- and one that has none
+pub no_words : (ws : List ℕ) → eqb (length ws) 0 ≡ true → KindCounted (cell_with 4 ws) None
+no_words ws e = record { off = rw e; tallied = tt }
 
 -- a kind that is none of the others
 pub the_fourth : (k : ℕ) → kind_off 0 k ≡ false → k ≢ 1 → k ≢ 2 → k ≢ 3 → k ≡ 4
@@ -81,13 +70,6 @@ pub judged_well_lem : (n before : ℕ) (c : Raw) → kind_off before c.kind ≡ 
 unfolding cell_table
 judged_well_lem n before c e f g = rw (e, f, g)
 
--- a kind in order after another is a kind
-pub kind_alone : (before k : ℕ) → kind_off before k ≡ false → kind_off 0 k ≡ false
-kind_alone before k h =
-    let p = or_none (ltb k before || eqb k 0) (ltb 4 k) h in
-    let q = or_none (ltb k before) (eqb k 0) p.0 in
-    rw (le-ltb k 0 (omega arith), q.1) p.1
-
 -- ---- words judged all at once
 
 -- no element of a part passes where none of the whole does
@@ -109,7 +91,7 @@ any_kind n k (w ∷ ws) e =
     go (inr a) f h = rw a h
 
 -- words with no node off in any kind, or in a PHED where the kind is that
-pub good_words : (n k : ℕ) (ws : List ℕ) (a b : Bool) → a ≡ any (node_off n TET4) ws → b ≡ any (node_off n PHED) ws → (not a || (not b && eqb k PHED)) ≡ true → any (node_off n k) ws ≡ false
-good_words n k ws false b d e h = any_kind n k ws (sym d)
-good_words n k ws true false d e h = subst (λ (j : ℕ). any (node_off n j) ws ≡ false) (sym (eqb-true k PHED h)) (sym e)
-good_words n k ws true true d e h = absurd (false≢true h)
+pub good_words : (n k : ℕ) (ws : List ℕ) (a b p : Bool) → a ≡ any (node_off n TET4) ws → b ≡ any (node_off n PHED) ws → p ≡ eqb k PHED → (not a || (not b && p)) ≡ true → any (node_off n k) ws ≡ false
+good_words n k ws false b p d e f h = any_kind n k ws (sym d)
+good_words n k ws true false p d e f h = subst (λ (j : ℕ). any (node_off n j) ws ≡ false) (sym (eqb-true k PHED (sym f ∙ h))) (sym e)
+good_words n k ws true true p d e f h = absurd (false≢true h)

@@ -10,6 +10,7 @@ use borrow.Author.Tests.{ltb-false}
 use lib.Dec.{ltb}
 use lib.ListN.{length, get_or, take, drop, length-append}
 use lib.Seq.{drop-cons, drop-drop}
+use Rattle.laws.specs.Limits.{cell_limit, word_limit}
 use Rattle.laws.specs.Lists.{any, each}
 use Rattle.laws.specs.Refusals.{refusal}
 use Rattle.laws.proofs.ListLaws.{each_append, any_append}
@@ -18,8 +19,7 @@ use Rattle.laws.proofs.Tests.{or_none}
 use Rattle.mesh.specs.Model.{Raw, cells_from}
 use Rattle.mesh.specs.Rings.{rings_of}
 use Rattle.mesh.specs.Acceptance.{ends_off, cell_table, cells_table}
-use Rattle.mesh.specs.Steps.{ring_total, cell_with}
-use Rattle.mesh.specs.Counted.{CellTallied}
+use Rattle.mesh.specs.Steps.{ring_total, cell_with, CellTallied}
 use Rattle.mesh.specs.declared.CellTally.{CellTally}
 
 -- ---- ends in order
@@ -58,6 +58,11 @@ total_append a b = ap length (each_append (λ (r : List ℕ). r) a b) ∙ length
 abbrev pub words_in : List Raw → List ℕ
 words_in cs = each (λ c. c.words) cs
 
+-- no more cells and words than a model may have
+pub record Few (cs : List Raw) : Type 0 where
+  pub cells : length cs ≤ cell_limit
+  pub words : length (words_in cs) ≤ word_limit
+
 -- what is judged and counted before the cells that are left, with what they give, is all
 pub record Counting (n : ℕ) (cs rest : List Raw) (t : CellTally) (before : ℕ) : Type 0 where
   pub seen : List Raw
@@ -83,6 +88,13 @@ counting_start n cs rest t is a b = record {
 words_append : (a b : List Raw) → words_in (a ++ b) ≡ words_in a ++ words_in b
 words_append a b = each_append (λ (c : Raw). c.words) a b
 
+-- what is counted of few cells and words is not much
+pub counting_bound : {n : ℕ} {cs rest : List Raw} {t : CellTally} {before : ℕ} → Counting n cs rest t before → Few cs → (t.faces ≤ 360448) × (t.words ≤ 655360)
+counting_bound {n} {cs} {rest} {t} {before} r f =
+    let l = ap length (sym r.parts) ∙ length-append r.seen rest in
+    let w = ap (λ (x : List Raw). length (words_in x)) (sym r.parts) ∙ ap length (words_append r.seen rest) ∙ length-append (words_in r.seen) (words_in rest) in
+    (omega (arith, r.few, l, w, f.cells, f.words), omega (arith, r.small, l, w, f.cells, f.words))
+
 module _ {n : ℕ} {cs rest later : List Raw} {t : CellTally} {before : ℕ} (r : Counting n cs rest t before) (c : Raw) (is : rest ≡ c ∷ later) where
   words_are : words_in cs ≡ words_in r.seen ++ (c.words ++ words_in later)
   words_are =
@@ -96,6 +108,12 @@ module _ {n : ℕ} {cs rest later : List Raw} {t : CellTally} {before : ℕ} (r 
 
   pub next_length : length c.words ≤ length (words_in cs)
   next_length = omega (arith, ap length words_are, length-append (words_in r.seen) (c.words ++ words_in later), length-append c.words (words_in later))
+
+  -- the sums go on fitting
+  pub next_bound : (u : CellTally) → CellTallied c u → Few cs → (t.faces + u.faces < 4294967296) × (t.words + u.words < 4294967296)
+  next_bound u h f =
+      let b = counting_bound r f in
+      (omega (arith, b.0, h.few, next_length, f.words), omega (arith, b.1, h.small, next_length, f.words))
 
   -- a cell is refused, and so are the cells
   pub refused_here : refusal (cell_table n before c) ≢ 0 → refusal (cell_table n before c) ≡ refusal (cells_table n 0 cs)
@@ -122,14 +140,6 @@ module _ {n : ℕ} {cs rest later : List Raw} {t : CellTally} {before : ℕ} (r 
         few = omega (arith, a, p.few, r.few, w, w1, l);
         small = omega (arith, b, p.small, r.small, w, w1, l);
       }
-
--- what is counted is bounded by all cells and words
-pub counting_bound : {n : ℕ} {cs rest : List Raw} {t : CellTally} {before : ℕ} → Counting n cs rest t before
-    → (t.faces ≤ 6 * length cs + length (words_in cs)) × (t.words ≤ 24 * length cs + length (words_in cs))
-counting_bound {n} {cs} {rest} {t} {before} r =
-    let l = ap length (sym r.parts) ∙ length-append r.seen rest in
-    let w = ap (λ (x : List Raw). length (words_in x)) (sym r.parts) ∙ ap length (words_append r.seen rest) ∙ length-append (words_in r.seen) (words_in rest) in
-    (omega (arith, r.few, l, w), omega (arith, r.small, l, w))
 
 -- no cell is left
 pub counting_end : {n : ℕ} {cs rest : List Raw} {t : CellTally} {before : ℕ} → Counting n cs rest t before → rest ≡ []

@@ -1,10 +1,11 @@
 -- What the passes over cells answer.
 use Prim.Native.Nat.{ℕ}
-use mathlib.Core.Path.{◌≡◌, refl, sym, ap, ◌∙◌}
+use mathlib.Core.Path.{◌≡◌, refl, sym, ap, ◌∙◌, subst}
+use mathlib.Core.Bool.{true, false}
 use mathlib.Core.List.{List}
-use native.Mathlib.Omega.{arith}
 use lib.ListN.{length}
-use Rattle.std.specs.Prelude.{Result, Ok, Err}
+use Rattle.std.specs.Prelude.{Result, Ok, Err, Option, Some, None}
+use Rattle.std.specs.Option.{ok_or}
 use Rattle.laws.specs.Refusals.{refusal}
 use Rattle.refusals.specs.declared.Refusal.{Refusal}
 use Rattle.refusals.specs.declared.Refusal.TheVariants.{Cell}
@@ -12,22 +13,40 @@ use Rattle.refusals.specs.Told.{number}
 use Rattle.refusals.proofs.Told.{told_ok, told_err, ok_told, err_told}
 use Rattle.geometry.specs.Coordinates.{node_count}
 use Rattle.mesh.specs.Model.{Model, Raw, cells_of}
-use Rattle.mesh.specs.Acceptance.{cell_table, cells_table, mesh_table}
-use Rattle.mesh.specs.Steps.{KindCounted}
-use Rattle.mesh.specs.Counted.{CellCounted, CellsTallied, CellsCounted, MeshCounted}
+use Rattle.mesh.specs.Acceptance.{kind_off, count_wrong, cell_table, cells_table, mesh_table}
+use Rattle.mesh.specs.Steps.{cell_with, CellTallied, KindCounted}
+use Rattle.mesh.specs.Counted.{refused_by, CellCounted, CellsTallied, CellsCounted, MeshCounted}
+use Rattle.mesh.specs.Kinds.{kind_number}
 use Rattle.mesh.specs.declared.CellTally.{CellTally}
-use Rattle.mesh.specs.declared.RunTally.{RunTally}
+use Rattle.mesh.specs.declared.kind.Kind.{Kind}
+use Rattle.mesh.proofs.KindNumbers.{number_on}
 use Rattle.mesh.proofs.ModelTable.{Before9, rows9, face_count_lem, ring_words_lem}
+
+-- where nothing is counted, the count or a ring is wrong
+pub counted_none : (c : Raw) (r : Option CellTally) → KindCounted c r → (e f : Refusal) → ok_or r e ≡ Err f → (f ≡ e) × (count_wrong c ≡ true)
+counted_none c None k e f h = let q : f ≡ e = cc in (q, sym k.off)
+counted_none c (Some t) k e f h = absurd (cc)
+
+-- and where something is, they are right
+pub counted_some : (c : Raw) (r : Option CellTally) → KindCounted c r → (e : Refusal) (t : CellTally) → ok_or r e ≡ Ok t → (count_wrong c ≡ false) × CellTallied c t
+counted_some c None k e t h = absurd (cc)
+counted_some c (Some u) k e t h = let q : u ≡ t = cc in (sym k.off, subst (CellTallied c) q k.tallied)
 
 -- a cell that is refused, and one that is not
 pub cell_refused : (n before : ℕ) (c : Raw) → refusal (cell_table n before c) ≡ 9 → CellCounted n before c (Err Cell)
 cell_refused n before c e = record { answered = err_told {A = CellTally} {B = Unit {0}} _ Cell _ _ (sym e); tallied = tt }
 
-pub cell_passed : (n before : ℕ) (c : Raw) (t : RunTally) (u : CellTally) → refusal (cell_table n before c) ≡ 0 → KindCounted c t → u.faces ≡ t.faces → u.words ≡ t.words → CellCounted n before c (Ok u)
-cell_passed n before c t u e k a b = record {
-  answered = ok_told {A = CellTally} {B = Unit {0}} _ u _ _ e refl;
-  tallied = record { faces = a ∙ k.faces; words = b ∙ k.words; few = omega (arith, a, k.few); small = omega (arith, b, k.small) };
-}
+pub cell_passed : (n before : ℕ) (c : Raw) (t : CellTally) → refusal (cell_table n before c) ≡ 0 → CellTallied c t → CellCounted n before c (Ok t)
+cell_passed n before c t e k = record { answered = ok_told {A = CellTally} {B = Unit {0}} _ t _ _ e refl; tallied = k }
+
+-- what is counted of a cell alone is counted of it behind others, where its kind is in order
+pub counted_after : {n before : ℕ} (k : Kind) {c : Raw} {r : Result CellTally Refusal} → (kind_number k ≡ c.kind) × (kind_off before c.kind ≡ false) → CellCounted n 0 (cell_with (kind_number k) c.words) r → CellCounted n before c r
+unfolding cell_table
+counted_after {n} {before} k {c} {r} e h =
+    let o = sym (ap (kind_off 0) e.0) ∙ number_on k in
+    let t : refusal (cell_table n 0 c) ≡ refusal (cell_table n before c) = rw (o, e.1) refl in
+    let g = subst (λ (j : ℕ). CellCounted n 0 (cell_with j c.words) r) e.0 h in
+    record { answered = subst (refused_by r) t g.answered; tallied = g.tallied }
 
 -- the same of cells
 pub cells_refused : (n : ℕ) (cs : List Raw) (e : Refusal) → number e ≡ refusal (cells_table n 0 cs) → CellsCounted n cs (Err e)

@@ -1,10 +1,13 @@
 -- Kinds and their numbers.
-use Prim.Native.Nat.{ℕ, ◌≤◌, ◌<◌}
+use Prim.Native.Nat.{ℕ, ◌≤◌}
+use denote.Enum.Bare.{sameb}
+use Rattle.mesh.specs.Model.{PHED}
+use Rattle.mesh.specs.contracts.kind.Kind.{the_type}
 use mathlib.Core.Path.{◌≡◌, refl, sym, ap, ◌∙◌}
 use mathlib.Core.Logic.{◌⊎◌, inl, inr}
 use mathlib.Core.Bool.{true, false, ◌||◌}
 use native.Mathlib.Omega.{arith}
-use borrow.Author.Tests.{lt-ltb, le-ltb}
+use borrow.Author.Tests.{le-ltb}
 use lib.Dec.{ltb, eqb}
 use Rattle.laws.proofs.Tests.{tested, or_none}
 use Rattle.std.specs.Prelude.{Result, Ok, Err}
@@ -12,7 +15,7 @@ use Rattle.refusals.specs.declared.Refusal.{Refusal}
 use Rattle.mesh.specs.Acceptance.{kind_off}
 use Rattle.mesh.specs.declared.kind.Kind.{Kind}
 use Rattle.mesh.specs.declared.kind.Kind.TheVariants.{Tet4, Hex8, Wedge6, Phed}
-use Rattle.mesh.specs.Kinds.{kind_number, KindRead}
+use Rattle.mesh.specs.Kinds.{kind_number, KindRead, KindAfter}
 
 -- a kind that was read has the number that was read
 pub kind_read : (n : ℕ) (r : Result Kind Refusal) (k : Kind) → KindRead n r → r ≡ Ok k → kind_number k ≡ n
@@ -23,25 +26,31 @@ kind_read n (Err x) k h e = absurd (apart n x k e)
     apart n x k e = cc
 
 -- a number that is no kind's, or is below the one before
-pub kind_none : (before n : ℕ) → kind_off 0 n ≡ true → kind_off before n ≡ true
+kind_none : (before n : ℕ) → kind_off 0 n ≡ true → kind_off before n ≡ true
 kind_none before n h = go (tested (ltb n before))
   where
     go : (ltb n before ≡ true) ⊎ (ltb n before ≡ false) → kind_off before n ≡ true
     go (inl e) = rw e
     go (inr e) = rw e (sym (rw (le-ltb n 0 (omega arith))) ∙ h)
 
-pub kind_below : (before n : ℕ) → n < before → kind_off before n ≡ true
-kind_below before n h = rw (lt-ltb n before h)
-
 -- the number of a kind
-number_on : (k : Kind) → kind_off 0 (kind_number k) ≡ false
+pub number_on : (k : Kind) → kind_off 0 (kind_number k) ≡ false
 number_on Tet4 = refl
 number_on Hex8 = refl
 number_on Wedge6 = refl
 number_on Phed = refl
 
-pub kind_on : (before n : ℕ) (k : Kind) → kind_number k ≡ n → before ≤ n → kind_off before n ≡ false
-kind_on before n k e h =
-    let p = or_none (ltb n 0 || eqb n 0) (ltb 4 n) (sym (ap (kind_off 0) e) ∙ number_on k) in
+-- a kind is a PHED where its number is
+pub kind_phed : (k : Kind) → sameb the_type k Phed ≡ eqb (kind_number k) PHED
+kind_phed Tet4 = refl
+kind_phed Hex8 = refl
+kind_phed Wedge6 = refl
+kind_phed Phed = refl
+
+-- a kind that was read, of a number not below the one before, is in order
+pub kind_on : (before n : ℕ) (r : Result Kind Refusal) → before ≤ n → KindRead n r → KindAfter before n r
+kind_on before n (Ok k) h e =
+    let p = or_none (ltb n 0 || eqb n 0) (ltb PHED n) (sym (ap (kind_off 0) e) ∙ number_on k) in
     let q = or_none (ltb n 0) (eqb n 0) p.0 in
-    rw (le-ltb n before h, q.1) p.1
+    (e, rw (le-ltb n before h, q.1) p.1)
+kind_on before n (Err x) h e = (e.0, kind_none before n e.1)

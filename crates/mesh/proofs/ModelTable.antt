@@ -87,8 +87,9 @@ nines n before (c ∷ cs) = numbered_append (cell_table n before c) (cells_table
 
 -- ---- the mesh, then the flags
 
-mesh_numbered : (m : Model) → Numbered (mesh_table m)
-mesh_numbered m = (λ e. omega arith, (λ e. omega arith, (λ e. omega arith, (λ e. omega arith, nines (node_count m.coords) 0 (cells_of m)))))
+-- every row of the mesh has a number
+pub numbers_mesh : (m : Model) → Numbered (mesh_table m)
+numbers_mesh m = (λ e. omega arith, (λ e. omega arith, (λ e. omega arith, (λ e. omega arith, nines (node_count m.coords) 0 (cells_of m)))))
 
 pub mesh_first : (m : Model) → refusal (mesh_table m) ≢ 0 → model_refusal m ≡ refusal (mesh_table m)
 unfolding model_refusal
@@ -96,7 +97,7 @@ mesh_first m z = refusal_first (mesh_table m) ((10, ltb flag_limit m.flags) ∷ 
 
 flags_next : (m : Model) → refusal (mesh_table m) ≡ 0 → model_refusal m ≡ refusal ((10, ltb flag_limit m.flags) ∷ [])
 unfolding model_refusal
-flags_next m z = refusal_second (mesh_table m) ((10, ltb flag_limit m.flags) ∷ []) (mesh_numbered m) z
+flags_next m z = refusal_second (mesh_table m) ((10, ltb flag_limit m.flags) ∷ []) (numbers_mesh m) z
 
 pub flags_off : (m : Model) → refusal (mesh_table m) ≡ 0 → flag_limit < m.flags → model_refusal m ≡ 10
 flags_off m z f = flags_next m z ∙ rw (lt-ltb flag_limit m.flags f)

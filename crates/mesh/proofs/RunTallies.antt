@@ -1,19 +1,20 @@
 -- The pass over a PHED's rings: what is counted so far, and what is left.
-use Prim.Native.Nat.{ℕ, suc, ◌+◌, ◌*◌, ◌≤◌}
+use Prim.Native.Nat.{ℕ, suc, ◌+◌, ◌*◌, ◌≤◌, ◌<◌}
 use mathlib.Core.Path.{◌≡◌, refl, sym, ap, ◌∙◌}
 use mathlib.Core.Logic.{◌⊎◌, inl, inr}
-use mathlib.Core.Bool.{Bool, true, false, ◌||◌, or_assoc, or-false}
+use mathlib.Core.Bool.{Bool, true, false, ◌||◌}
 use mathlib.Core.List.{List, [], ◌∷◌}
 use native.Mathlib.Omega.{arith}
-use borrow.Author.Tests.{leb-true, leb-false, le-ltb}
-use lib.Dec.{leb, ltb, eqb}
+use borrow.Author.Tests.{leb-true, leb-false, lt-ltb, le-ltb}
+use lib.Dec.{leb, eqb}
 use lib.ListN.{length, length-append}
+use Rattle.std.specs.Prelude.{Some, None}
 use Rattle.laws.specs.Limits.{ring_limit}
 use Rattle.laws.specs.Lists.{any, keep, each}
 use Rattle.laws.proofs.Tests.{tested}
 use Rattle.mesh.specs.Rings.{separator, onto, runs, phed_rings}
 use Rattle.mesh.specs.Steps.{ring_total, too_long, RunsCounted}
-use Rattle.mesh.specs.declared.RunTally.{RunTally}
+use Rattle.mesh.specs.declared.CellTally.{CellTally}
 
 -- ---- rings are runs
 
@@ -63,42 +64,46 @@ phed_few ws = (omega (arith, few_rings (runs ws), small_rings (runs ws), runs_to
 
 -- ---- the pass
 
--- what is counted, with the rings that are left, is all
-pub record Running (ws : List ℕ) (t : RunTally) (rest : List (List ℕ)) : Type 0 where
-  pub long : (t.long || any too_long rest) ≡ any too_long (phed_rings ws)
+-- no ring so far is too long, and what is counted, with the rings that are left, is all
+pub record Running (ws : List ℕ) (t : CellTally) (rest : List (List ℕ)) : Type 0 where
+  pub long : any too_long rest ≡ any too_long (runs ws)
   pub faces : t.faces + length rest ≡ length (phed_rings ws)
   pub words : t.words + ring_total rest ≡ ring_total (phed_rings ws)
 
--- the same after a ring of so many words
-pub record Noted (t u : RunTally) (len : ℕ) : Type 0 where
-  pub long : u.long ≡ (t.long || ltb ring_limit len)
-  pub faces : u.faces ≡ t.faces + 1
-  pub words : u.words ≡ t.words + len
-
 -- no ring is counted yet
-pub running_start : (ws : List ℕ) (t : RunTally) (rest : List (List ℕ)) → rest ≡ phed_rings ws → t.long ≡ false → t.faces ≡ 0 → t.words ≡ 0 → Running ws t rest
-running_start ws t rest is a b c = record { long = rw a (ap (any too_long) is); faces = omega (arith, b, ap length is); words = omega (arith, c, ap ring_total is) }
+pub running_start : (ws : List ℕ) (t : CellTally) (rest : List (List ℕ)) → rest ≡ phed_rings ws → t.faces ≡ 0 → t.words ≡ 0 → Running ws t rest
+running_start ws t rest is a b =
+    record { long = ap (any too_long) is ∙ long_rings (runs ws); faces = omega (arith, a, ap length is); words = omega (arith, b, ap ring_total is) }
 
--- one ring more
-pub running_next : (ws : List ℕ) (t u : RunTally) (r : List ℕ) (rest later : List (List ℕ)) → rest ≡ r ∷ later → Running ws t rest → Noted t u (length r) → Running ws u later
-running_next ws t u r rest later is p n = record {
-  long =
-      ap (λ (x : Bool). x || any too_long later) n.long
-      ∙ or_assoc t.long (ltb ring_limit (length r)) (any too_long later)
-      ∙ ap (λ (l : List (List ℕ)). t.long || any too_long l) (sym is)
-      ∙ p.long;
-  faces = omega (arith, n.faces, p.faces, ap length is);
-  words = omega (arith, n.words, p.words, ap ring_total is, length-append r (each (λ (x : List ℕ). x) later));
-}
+module _ {ws : List ℕ} {t : CellTally} {rest : List (List ℕ)} (p : Running ws t rest) where
+  -- no ring has more words than there are, with those that are counted
+  pub running_room : (r : List ℕ) (later : List (List ℕ)) → rest ≡ r ∷ later → (t.faces + 1 ≤ length ws) × (t.words + length r ≤ length ws)
+  running_room r later is =
+      let h = phed_few ws in
+      (omega (arith, h.0, p.faces, ap length is), omega (arith, h.1, p.words, ap ring_total is, length-append r (each (λ (x : List ℕ). x) later)))
 
--- no ring is left
-pub running_end : (ws : List ℕ) (t : RunTally) (rest : List (List ℕ)) → Running ws t rest → rest ≡ [] → RunsCounted ws t
-running_end ws t rest p is =
-    let h = phed_few ws in
-    record {
-      long = sym (or-false t.long) ∙ ap (λ (l : List (List ℕ)). t.long || any too_long l) (sym is) ∙ p.long ∙ long_rings (runs ws);
-      faces = omega (arith, p.faces, ap length is);
-      words = omega (arith, p.words, ap ring_total is);
-      few = omega (arith, p.faces, h.0);
-      small = omega (arith, p.words, h.1);
-    }
+  -- a ring that is too long
+  pub running_long : (r : List ℕ) (later : List (List ℕ)) → rest ≡ r ∷ later → ring_limit < length r → RunsCounted ws None
+  running_long r later is h = record { long = rw (lt-ltb ring_limit (length r) h) at (ap {B = Bool} (any too_long) (sym is) ∙ p.long); tallied = tt }
+
+  -- one ring more
+  pub running_next : (u : CellTally) (r : List ℕ) (later : List (List ℕ)) → rest ≡ r ∷ later → length r ≤ ring_limit → u.faces ≡ t.faces + 1 → u.words ≡ t.words + length r → Running ws u later
+  running_next u r later is h a b = record {
+    long = rw (le-ltb ring_limit (length r) h) at (ap {B = Bool} (any too_long) (sym is) ∙ p.long);
+    faces = omega (arith, a, p.faces, ap length is);
+    words = omega (arith, b, p.words, ap ring_total is, length-append r (each (λ (x : List ℕ). x) later));
+  }
+
+  -- no ring is left
+  pub running_end : rest ≡ [] → RunsCounted ws (Some t)
+  running_end is =
+      let h = phed_few ws in
+      record {
+        long = ap (any too_long) (sym is) ∙ p.long;
+        tallied = record {
+          faces = omega (arith, p.faces, ap length is);
+          words = omega (arith, p.words, ap ring_total is);
+          few = omega (arith, p.faces, h.0);
+          small = omega (arith, p.words, h.1);
+        };
+      }

@@ -2,7 +2,7 @@
 use Prim.Native.Nat.{ℕ, suc, ◌+◌, ◌≤◌, ◌<◌}
 use mathlib.Core.Path.{◌≡◌, refl, ap, ap₂, ◌∙◌}
 use mathlib.Core.Logic.{◌⊎◌, inl, inr, ◌≢◌}
-use mathlib.Core.Bool.{Bool, true, false, cond, ◌||◌}
+use mathlib.Core.Bool.{Bool, true, false, cond}
 use mathlib.Core.List.{List, [], ◌∷◌, ◌++◌}
 use native.Mathlib.Numerals.{add-one}
 use native.Mathlib.Omega.{arith}
@@ -10,11 +10,10 @@ use borrow.Author.Tests.{ltb-false, eq-eqb, ne_eqb, lt-ltb}
 use lib.Dec.{leb, ltb, eqb, leb-suc-suc}
 use lib.ListN.{length, get_or, take, drop, drop_of_length-le}
 use lib.Seq.{drop-cons, length-take-le}
-use Rattle.laws.specs.Limits.{ring_limit}
-use Rattle.laws.specs.Lists.{only_if, any, keep}
+use Rattle.laws.specs.Lists.{only_if, keep}
 use Rattle.laws.proofs.Tests.{tested}
 use Rattle.mesh.specs.Rings.{separator, runs, phed_rings}
-use Rattle.mesh.specs.Steps.{lead, too_long}
+use Rattle.mesh.specs.Steps.{lead}
 
 -- ---- where a run ends
 
@@ -52,16 +51,7 @@ runs_first (w ∷ ws) = go (tested (eqb w separator)) (runs_first ws)
     go (inl e) h = rw (e, lt-ltb 0 (suc (length ws)) (omega arith))
     go (inr e) h = rw (e, h, leb-suc-suc (suc (lead ws)) (length ws))
 
--- what a test says of the runs behind the first, that fails for an empty run
-any_behind : (p : List ℕ → Bool) → p [] ≡ false → (ws : List ℕ) → any p (behind ws) ≡ any p (runs (drop (suc (lead ws)) ws))
-any_behind p e ws = go (tested (ltb (lead ws) (length ws)))
-  where
-    go : (ltb (lead ws) (length ws) ≡ true) ⊎ (ltb (lead ws) (length ws) ≡ false) → any p (behind ws) ≡ any p (runs (drop (suc (lead ws)) ws))
-    go (inl t) = rw t
-    go (inr t) =
-        let h : length ws ≤ suc (lead ws) = omega (arith, ltb-false (lead ws) (length ws) t) in
-        rw (t, drop_of_length-le ws h, e)
-
+-- the runs behind the first that pass a test, which fails for an empty run
 keep_behind : (p : List ℕ → Bool) → p [] ≡ false → (ws : List ℕ) → keep p (behind ws) ≡ keep p (runs (drop (suc (lead ws)) ws))
 keep_behind p e ws = go (tested (ltb (lead ws) (length ws)))
   where
@@ -73,12 +63,6 @@ keep_behind p e ws = go (tested (ltb (lead ws) (length ws)))
 
 first_length : (ws : List ℕ) → length (take (lead ws) ws) ≡ lead ws
 first_length ws = length-take-le (lead ws) ws (lead_le ws)
-
--- some run is too long: the first, or one behind it
-pub long_next : (ws : List ℕ) → any too_long (runs ws) ≡ (ltb ring_limit (lead ws) || any too_long (runs (drop (suc (lead ws)) ws)))
-long_next ws =
-    ap (any too_long) (runs_first ws)
-    ∙ ap₂ (λ (a b : Bool). a || b) (ap (ltb ring_limit) (first_length ws)) (any_behind too_long refl ws)
 
 -- a PHED's rings: the first run if it has three words, and those behind it
 pub phed_next : (ws : List ℕ) → phed_rings ws ≡ only_if (leb 3 (lead ws)) (take (lead ws) ws ∷ []) ++ phed_rings (drop (suc (lead ws)) ws)

@@ -1,5 +1,5 @@
 -- For internal contracts: what a pass over cells judges and counts.
-use Rattle.std.specs.Prelude.{ℕ, ◌+◌, ◌≤◌, ◌<◌, List, ◌≡◌, length, Result, IfOk}
+use Rattle.std.specs.Prelude.{ℕ, ◌<◌, List, ◌≡◌, length, Result, IfOk}
 use Rattle.laws.specs.Lists.{each}
 use Rattle.laws.specs.Refusals.{refusal, answer}
 use Rattle.refusals.specs.Told.{told_by}
@@ -7,19 +7,12 @@ use Rattle.refusals.specs.declared.Refusal.{Refusal}
 use Rattle.mesh.specs.Model.{Model, Raw}
 use Rattle.mesh.specs.Rings.{rings_of}
 use Rattle.mesh.specs.Acceptance.{cell_table, cells_table, mesh_table}
-use Rattle.mesh.specs.Steps.{ring_total, Tallied}
+use Rattle.mesh.specs.Steps.{ring_total, CellTallied, Tallied}
 use Rattle.mesh.specs.declared.CellTally.{CellTally}
 
 -- the number alone of an answer that is told
 abbrev pub refused_by : {A : Type 0} → Result A Refusal → ℕ → Type 0
 refused_by r n = told_by (λ _. tt {0}) r ≡ answer n (tt {0})
-
--- faces and ring words of a cell
-pub record CellTallied (c : Raw) (t : CellTally) : Type 0 where
-  pub faces : t.faces ≡ length (rings_of c)
-  pub words : t.words ≡ ring_total (rings_of c)
-  pub few : t.faces ≤ 6 + length c.words
-  pub small : t.words ≤ 24 + length c.words
 
 -- a cell, among n nodes and after one of kind `before`
 pub record CellCounted (n before : ℕ) (c : Raw) (r : Result CellTally Refusal) : Type 0 where

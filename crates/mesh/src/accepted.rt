@@ -66,11 +66,7 @@ impl Cell<'_> {
         ensures faces { (result.faces ≡ length (rings_of (cell_raw self.now))) × (result.faces ≤ 6 + length self.now.words.now) }
         ensures words { (result.words ≡ ring_total (rings_of (cell_raw self.now))) × (result.words ≤ 24 + length self.now.words.now) }
     {
-        let t = crate::tally_kind(self.kind, self.words);
-        CellTally {
-            faces: t.faces,
-            words: t.words,
-        }
+        crate::tally_kind(self.kind, self.words).unwrap()
     }
 }
 

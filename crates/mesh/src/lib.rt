@@ -1,14 +1,14 @@
 // The model: its check flags, and why it is refused; one pass over its cells judges and counts.
 #![tactic(auto)]
 
-ghost use Rattle.std.specs.Prelude.{◌≡◌, ◌||◌, not, true, false, ◌+◌, ◌≤◌, ◌<◌, ltb, eqb, length};
-ghost use Rattle.laws.specs.Limits.{ring_limit};
+ghost use Rattle.std.specs.Prelude.{◌≡◌, not, true, false, ◌≤◌, ◌<◌, ltb, eqb, length, is_none, IfSome};
+ghost use Rattle.laws.specs.Limits.{cell_limit, word_limit, flag_limit};
 ghost use Rattle.laws.specs.Lists.{any};
 ghost use Rattle.laws.specs.Refusals.{answer};
 ghost use Rattle.refusals.specs.Told.{told_by};
 ghost use Rattle.mesh.specs.Model.{cells_from, contains as containsOf, intersects as intersectsOf};
-ghost use Rattle.mesh.specs.Lent.{lent, raw};
-ghost use Rattle.mesh.specs.Kinds.{kind_number};
+ghost use Rattle.mesh.specs.Lent.{lent};
+ghost use Rattle.mesh.specs.Kinds.{kind_number, KindAfter};
 ghost use Rattle.mesh.specs.Acceptance.{shape_off, ends_off, node_off, model_refusal};
 ghost use Rattle.mesh.specs.Steps.{cell_with, RunsCounted, KindCounted};
 ghost use Rattle.mesh.specs.Counted.{CellCounted, CellsCounted, MeshCounted};
@@ -23,6 +23,13 @@ mod accepted; // an accepted model, and its cells
 mod kind; // the kinds of cells
 mod model; // a model in lent lists, and its cells as they stand there
 mod phed; // the rings of a PHED
+
+// The most cells, words of all cells, and words of a ring.
+const CELL_LIMIT: usize = 16384;
+
+const WORD_LIMIT: usize = 262144;
+
+const RING_LIMIT: usize = 64;
 
 // The check flags.
 #[derive(Clone, Copy)]
@@ -47,6 +54,13 @@ impl Checks {
     {
         self.0 & other.0 != 0
     }
+
+    // A flag that is none of these.
+    fn unknown(self) -> bool
+        ensures { result ≡ ltb flag_limit self.0 }
+    {
+        Checks::ALL.0 < self.0
+    }
 }
 
 // One of the two ring lists.
@@ -54,14 +68,6 @@ impl Checks {
 pub enum RingList {
     Raw,
     Welded,
-}
-
-// What is counted of a PHED's words: whether a ring is too long, its faces and the words of these.
-#[derive(Clone, Copy)]
-pub struct RunTally {
-    pub long: bool,
-    pub faces: usize,
-    pub words: usize,
 }
 
 // What is counted of cells: faces and ring words.
@@ -86,48 +92,35 @@ fn ends_off(ends: &[u32], n: usize) -> bool
     at != n
 }
 
-// A ring of so many words noted.
-fn note_ring(t: RunTally, len: usize) -> RunTally
-    requires { (t.faces < 4294967296) × (t.words < 4294967296) × (len < 4294967296) }
-    ensures { (result.long ≡ (t.long || ltb ring_limit len)) × (result.faces ≡ t.faces + 1) × (result.words ≡ t.words + len) }
-{
-    let over = len > 64;
-    RunTally {
-        long: t.long | over,
-        faces: t.faces + 1,
-        words: t.words + len,
-    }
-}
-
-// A PHED's rings, one by one. A run that is too long is a ring.
-fn tally_runs(words: &[u32]) -> RunTally
+// A PHED's rings, one by one; none where one is too long.
+fn tally_runs(words: &[u32]) -> Option<CellTally>
     requires { length words.now < 4294967296 }
     ensures { RunsCounted words.now result }
 {
-    let mut t = RunTally {
-        long: false,
-        faces: 0,
-        words: 0,
-    };
+    let mut t = CellTally { faces: 0, words: 0 };
     for ring in PhedRings::new(words) {
-        t = note_ring(t, ring.len());
+        if RING_LIMIT < ring.len() {
+            return None;
+        }
+        t.faces += 1;
+        t.words += ring.len();
     }
-    t
+    Some(t)
 }
 
-// A word that is no node's number, and in a PHED no separator. The kind is the lent one, any number.
-fn node_off(nodes: usize, kind: u8, word: u32) -> bool
-    ensures { result ≡ node_off nodes kind word }
+// A word that is no node's number, and in a PHED no separator.
+fn node_off(nodes: usize, kind: Kind, word: u32) -> bool
+    ensures { result ≡ node_off nodes (kind_number kind) word }
 {
     let large = nodes <= word as usize;
-    let phed = kind == 4;
+    let phed = kind == Kind::Phed;
     let separates = word == SEPARATOR;
     large & !(phed & separates)
 }
 
 // Some word is. Every word is tested, with no early exit.
-fn nodes_off(nodes: usize, kind: u8, words: &[u32]) -> bool
-    ensures { result ≡ any (node_off nodes kind) words.now }
+fn nodes_off(nodes: usize, kind: Kind, words: &[u32]) -> bool
+    ensures { result ≡ any (node_off nodes (kind_number kind)) words.now }
 {
     let mut off = false;
     for word in words {
@@ -137,9 +130,9 @@ fn nodes_off(nodes: usize, kind: u8, words: &[u32]) -> bool
 }
 
 // The same, with no word read where all are known to be `good`.
-fn nodes_off_unless(nodes: usize, kind: u8, words: &[u32], good: bool) -> bool
-    requires { good ≡ true → any (node_off nodes kind) words.now ≡ false }
-    ensures { result ≡ any (node_off nodes kind) words.now }
+fn nodes_off_unless(nodes: usize, kind: Kind, words: &[u32], good: bool) -> bool
+    requires { good ≡ true → any (node_off nodes (kind_number kind)) words.now ≡ false }
+    ensures { result ≡ any (node_off nodes (kind_number kind)) words.now }
 {
     if good {
         return false;
@@ -148,32 +141,29 @@ fn nodes_off_unless(nodes: usize, kind: u8, words: &[u32], good: bool) -> bool
 }
 
 // A cell of so many words, where it must have `wanted`, with so many faces and ring words.
-fn tally_fixed(len: usize, wanted: usize, faces: usize, words: usize) -> RunTally
-    ensures { (result.long ≡ not (eqb len wanted)) × (result.faces ≡ faces) × (result.words ≡ words) }
+fn tally_fixed(len: usize, wanted: usize, faces: usize, words: usize) -> Option<CellTally>
+    ensures off { is_none result ≡ not (eqb len wanted) }
+    ensures tallied { IfSome result (λ t. (t.faces ≡ faces) × (t.words ≡ words)) }
 {
-    RunTally {
-        long: len != wanted,
-        faces: faces,
-        words: words,
+    if len != wanted {
+        return None;
     }
+    Some(CellTally { faces, words })
 }
 
-// A PHED: no word, or a ring too long; and its faces.
-fn tally_phed(words: &[u32]) -> RunTally
+// A PHED's faces; none where it has no word, or a ring too long.
+fn tally_phed(words: &[u32]) -> Option<CellTally>
     requires { length words.now < 4294967296 }
     ensures { KindCounted (cell_with 4 words.now) result }
 {
-    let t = tally_runs(words);
-    let none = words.is_empty();
-    RunTally {
-        long: none | t.long,
-        faces: t.faces,
-        words: t.words,
+    if words.is_empty() {
+        return None;
     }
+    tally_runs(words)
 }
 
-// A cell's word count and rings, by its kind.
-fn tally_kind(kind: Kind, words: &[u32]) -> RunTally
+// A cell's faces and ring words, by its kind; none where the word count or a ring's length is wrong.
+fn tally_kind(kind: Kind, words: &[u32]) -> Option<CellTally>
     requires { length words.now < 4294967296 }
     ensures { KindCounted (cell_with (kind_number kind) words.now) result }
 {
@@ -185,41 +175,43 @@ fn tally_kind(kind: Kind, words: &[u32]) -> RunTally
     }
 }
 
-// A cell after one of kind `before`: kind, then count, then nodes, unless these are known to be `good`.
-fn tally_cell(cell: &RawCell, before: u8, nodes: usize, good: bool) -> Result<CellTally, Refusal>
-    requires { (length cell.now.words.now < 4294967296) × (good ≡ true → any (node_off nodes cell.now.kind) cell.now.words.now ≡ false) }
-    ensures { CellCounted nodes before (raw cell.now) result }
+// The kind of a cell after one of kind number `before`, 0 for none.
+// Compared as numbers: by a derived order of `Kind`, which reads a table, accepting tetrahedra takes 1.3 times as long.
+fn kind_after(kind: u8, before: u8) -> Result<Kind, Refusal>
+    ensures { KindAfter before kind result }
 {
-    let kind = Kind::try_from(cell.kind)?;
-    if cell.kind < before {
+    if kind < before {
         return Err(Refusal::Cell);
     }
-    let t = tally_kind(kind, cell.words);
-    if t.long {
+    Kind::try_from(kind)
+}
+
+// A cell whose kind is in order: count, then nodes, unless these are known to be `good`.
+fn tally_cell(kind: Kind, words: &[u32], nodes: usize, good: bool) -> Result<CellTally, Refusal>
+    requires { (length words.now < 4294967296) × (good ≡ true → any (node_off nodes (kind_number kind)) words.now ≡ false) }
+    ensures { CellCounted nodes 0 (cell_with (kind_number kind) words.now) result }
+{
+    let t = tally_kind(kind, words).ok_or(Refusal::Cell)?;
+    if nodes_off_unless(nodes, kind, words, good) {
         return Err(Refusal::Cell);
     }
-    if nodes_off_unless(nodes, cell.kind, cell.words, good) {
-        return Err(Refusal::Cell);
-    }
-    Ok(CellTally {
-        faces: t.faces,
-        words: t.words,
-    })
+    Ok(t)
 }
 
 // The cells in order: the first refusal, or all faces and ring words.
 fn tally_cells(model: &Model, nodes: usize) -> Result<CellTally, Refusal>
-    requires { (length model.now.kinds.now ≡ length model.now.ends.now) × (ends_off 0 model.now.ends.now (length model.now.words.now) ≡ false) × (length model.now.kinds.now ≤ 16384) × (length model.now.words.now ≤ 262144) }
+    requires { (length model.now.kinds.now ≡ length model.now.ends.now) × (ends_off 0 model.now.ends.now (length model.now.words.now) ≡ false) × (length model.now.kinds.now ≤ cell_limit) × (length model.now.words.now ≤ word_limit) }
     ensures { CellsCounted nodes (cells_from 0 model.now.kinds.now model.now.ends.now model.now.words.now) result }
 {
     // no word is off in a cell of any kind; none is off in a PHED
-    let below = !nodes_off(nodes, 1, model.words);
-    let sound = !nodes_off_unless(nodes, 4, model.words, below);
+    let below = !nodes_off(nodes, Kind::Tet4, model.words);
+    let sound = !nodes_off_unless(nodes, Kind::Phed, model.words, below);
     let mut all = CellTally { faces: 0, words: 0 };
     let mut before = 0;
     for cell in model.raw_cells() {
-        let good = below | (sound & (cell.kind == 4));
-        let t = tally_cell(&cell, before, nodes, good)?;
+        let kind = kind_after(cell.kind, before)?;
+        let good = below | (sound & (kind == Kind::Phed));
+        let t = tally_cell(kind, cell.words, nodes, good)?;
         all.faces += t.faces;
         all.words += t.words;
         before = cell.kind;
@@ -232,8 +224,8 @@ fn shape_off(model: &Model) -> bool
     ensures { result ≡ shape_off (lent model.now) }
 {
     let count = geometry::count_off(model.coords.len());
-    let cells = 16384 < model.kinds.len();
-    let many = 262144 < model.words.len();
+    let cells = CELL_LIMIT < model.kinds.len();
+    let many = WORD_LIMIT < model.words.len();
     let unequal = model.kinds.len() != model.ends.len();
     let wrong = ends_off(model.ends, model.words.len());
     count | cells | many | unequal | wrong
@@ -263,7 +255,7 @@ pub fn accept<'a>(model: &Model<'a>) -> Result<Accepted<'a>, Refusal>
     ensures { told_by (λ a. lent a.model) result ≡ answer (model_refusal (lent model.now)) (lent model.now) }
 {
     let t = judge_mesh(model)?;
-    if 3 < model.checks.0 {
+    if model.checks.unknown() {
         return Err(Refusal::Flags);
     }
     Ok(Accepted {

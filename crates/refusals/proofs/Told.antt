@@ -1,17 +1,15 @@
 -- What an answer that is told says of the refusal.
 use Prim.Native.Nat.{ℕ, ◌<◌}
-use mathlib.Core.Path.{◌≡◌, refl, sym, ap, ◌∙◌}
-use mathlib.Core.List.{[], ◌∷◌}
-use lib.ListN.{get_or}
+use mathlib.Core.Path.{◌≡◌, ap}
 use mathlib.Core.Logic.{◌≢◌}
 use native.Mathlib.Omega.{arith}
 use borrow.Author.Tests.{ne_eqb}
-use Rattle.std.specs.Prelude.{Result, Ok, Err}
+use Rattle.std.specs.Prelude.{Result, Ok, Err, IsErrAnd}
 use Rattle.laws.specs.Refusals.{refused, answer}
 use Rattle.laws.proofs.Tables.{answered_refused, answered_done}
 use Rattle.refusals.specs.declared.Refusal.{Refusal}
 use Rattle.refusals.specs.declared.Refusal.TheVariants.{FileLength, Letter, RecordBytes, Room, Shape, Tolerance, Coordinate, NoCells, Cell, Flags, Work, Number, Root}
-use Rattle.refusals.specs.Told.{number, told_by, told}
+use Rattle.refusals.specs.Told.{number, told_by}
 
 -- no reason has the number 0
 pub number-positive : (e : Refusal) → 0 < number e
@@ -29,37 +27,10 @@ number-positive Work = omega arith
 number-positive Number = omega arith
 number-positive Root = omega arith
 
--- a reason read back from its number
-reason : ℕ → Refusal
-reason n =
-    get_or (Root ∷ FileLength ∷ Letter ∷ RecordBytes ∷ Room ∷ Shape ∷ Tolerance ∷ Coordinate ∷ NoCells ∷ Cell ∷ Flags ∷ Work ∷ Number ∷ []) n Root
-
-reason-number : (e : Refusal) → reason (number e) ≡ e
-unfolding reason
-reason-number FileLength = refl
-reason-number Letter = refl
-reason-number RecordBytes = refl
-reason-number Room = refl
-reason-number Shape = refl
-reason-number Tolerance = refl
-reason-number Coordinate = refl
-reason-number NoCells = refl
-reason-number Cell = refl
-reason-number Flags = refl
-reason-number Work = refl
-reason-number Number = refl
-reason-number Root = refl
-
--- no two reasons have one number
-pub number-same : (e f : Refusal) → number e ≡ number f → e ≡ f
-number-same e f h = sym (reason-number e) ∙ ap reason h ∙ reason-number f
-
--- answers that are told alike are the same
-pub told_same : {A : Type 0} (r s : Result A Refusal) → told r ≡ told s → r ≡ s
-told_same (Ok a) (Ok b) e = let q : a ≡ b = cc in ap Ok q
-told_same (Ok a) (Err f) e = absurd (cc)
-told_same (Err e) (Ok b) h = absurd (cc)
-told_same (Err e) (Err f) h = let q : number e ≡ number f = cc in ap Err (number-same e f q)
+-- the exit of a `?`: the refusal, passed on
+pub err_passed : {A : Type 0} {e : Refusal} (r : Result A Refusal) → IsErrAnd r (λ x. x ≡ e) → r ≡ Err e
+err_passed (Ok a) h = absurd h
+err_passed (Err x) h = ap Err h
 
 module _ {A B : Type 0} (f : A → B) where
   -- an answer: nothing refuses, and it is what was asked for

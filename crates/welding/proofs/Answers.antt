@@ -20,7 +20,8 @@ use Rattle.laws.proofs.Tables.{refusal_first, refusal_second}
 use Rattle.geometry.specs.Coordinates.{node_count}
 use Rattle.mesh.specs.Model.{Model, model_of, cells_of}
 use Rattle.mesh.specs.Acceptance.{shape_off, mesh_table}
-use Rattle.mesh.proofs.Accepts.{numbers_mesh, Accepts, accepts}
+use Rattle.mesh.proofs.ModelTable.{numbers_mesh}
+use Rattle.mesh.proofs.Accepts.{Accepts, accepts}
 use Rattle.mesh.proofs.ModelTable.{no_row}
 use Rattle.snap.specs.Steps.{But}
 use Rattle.welding.specs.Used.{welds_of}

@@ -1,9 +1,9 @@
-use Rattle.mesh.proofs.CellKinds.{polyhedron}
-use mathlib.Core.Path.{refl, ap}
-use mathlib.Core.Bool.{Bool, ◌||◌}
+use mathlib.Core.Path.{sym, ◌∙◌}
+use Rattle.mesh.proofs.CellKinds.{polyhedron, no_words}
 use Rattle.mesh.proofs.tally_phed.Goals as goal
 
+pub returns-then-is_empty : goal.returns-then-is_empty
+returns-then-is_empty c = no_words c.args.words.now (sym c.is_empty.ensures ∙ c.if-is_empty.true)
+
 pub returns : goal.returns
-returns c =
-    let t = c.tally_runs-t.result in
-    polyhedron c.args.words.now _ _ c.tally_runs-t.ensures (ap (λ (b : Bool). b || t.long) c.is_empty-none.ensures) refl refl
+returns c = polyhedron c.args.words.now _ (sym c.is_empty.ensures ∙ c.if-is_empty.false) c.tally_runs.ensures
