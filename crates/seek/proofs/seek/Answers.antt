@@ -9,7 +9,7 @@ use lib.ListN.{length, get_or, replicate}
 use Rattle.counting.specs.Counts.{below}
 use Rattle.index.specs.declared.Places.{Places}
 use Rattle.index.specs.declared.by_node.Index.{Index}
-use Rattle.index.specs.Faces.{input, base, bow_of, cell_of, nodes_of, words_of, Indexed}
+use Rattle.index.specs.Faces.{input, bow_of, cell_of, words_of}
 use Rattle.index.specs.Read.{input_of, set_of}
 use Rattle.index.proofs.Read.{of_index, to_index}
 use Rattle.merge.specs.declared.Runs.{Runs as Merged}
