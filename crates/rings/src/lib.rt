@@ -58,6 +58,17 @@ fn put_rings<const N: usize, const M: usize>(
     k
 }
 
+// Words as they are; answers the place behind them.
+fn put_words(words: &[u32], out: &mut [u32], at: usize) -> usize
+    requires { at + length words.now ≤ length out.old }
+    ensures { WordsPut words.now out.old out.new at result }
+{
+    for i in 0..words.len() {
+        out[at + i] = words[i];
+    }
+    at + words.len()
+}
+
 // A PHED's rings; answers the place behind them.
 fn put_phed(words: &[u32], out: &mut [u32], at: usize) -> usize
     requires { at + ring_total (phed_rings words.now) ≤ length out.old }
@@ -65,9 +76,7 @@ fn put_phed(words: &[u32], out: &mut [u32], at: usize) -> usize
 {
     let mut k = at;
     for ring in PhedRings::new(words) {
-        let end = k + ring.len();
-        out[k..end].copy_from_slice(ring);
-        k = end;
+        k = put_words(ring, out, k);
     }
     k
 }
