@@ -3,30 +3,28 @@
 
 ghost use Rattle.std.specs.Prelude.{◌≡◌};
 ghost use Rattle.index.specs.Faces.{input, base};
+ghost use Rattle.seek.specs.Candidates.{by_nodes};
 ghost use Rattle.triple_keys.specs.Keys.{Keyed};
 ghost use Rattle.pairs.specs.Work.{is_by_nodes};
 ghost use Rattle.layout.specs.Tables.{Standing};
 ghost use Rattle.layout.specs.Shown.{Tabled};
 
-// How candidates are sought: whether the search by common nodes is less work, and the second index.
+// How candidates are sought: the way that is less work, and the second index.
 #[derive(Clone, Copy)]
 pub struct Search {
-    pub by_nodes: bool,
+    pub way: seek::Way,
     pub by: index::Places,
 }
 
 // Builds the index of the faces by node, and the second one.
 pub fn index_faces(work: &mut [u32], l: layout::Layout) -> Search
     requires { Tabled l work.old }
-    ensures by_nodes_value { result.by_nodes ≡ is_by_nodes l.at (input l.at work.old) }
+    ensures way_value { by_nodes result.way ≡ is_by_nodes l.at (input l.at work.old) }
     ensures standing { Standing l work.new × Keyed l.at result.by (base l.at work.new) }
     ensures work_unchanged { input l.at work.new ≡ input l.at work.old }
 {
     let at = l.at;
-    let by_nodes = pairs::prepare(work, at);
+    let way = pairs::prepare(work, at);
     let by = triple_keys::index_keys(work, at, l.second, l.total + 1);
-    Search {
-        by_nodes: by_nodes,
-        by: by,
-    }
+    Search { way, by }
 }

@@ -10,6 +10,7 @@ use borrow.Author.Tests.{le-leb, lt-leb}
 use lib.Dec.{leb}
 use lib.ListN.{length, get_or, take, drop, length-map}
 use lib.Seq.{take_at, drop_at}
+use Rattle.std.specs.Prelude.{Some, None}
 use Rattle.laws.specs.Lists.{only_if, any, keep, up_from, elem, sort, eql}
 use Rattle.laws.proofs.Tests.{tested, and_parts}
 use Rattle.laws.proofs.ListLaws.{any-map, keep-map, keep_append, keep-length, length-up_from, eql_self}
@@ -126,14 +127,14 @@ over_long : (f : Face) (more : List Face) → 2 ≤ length more
 unfolding over_of
 over_long f more h = rw (le-leb 2 (length more) h)
 
--- the finding of a face g that is the first of more than two with its key, by their count T
-pub record Many (l : Layout) (t : List ℕ) (g : ℕ) (T : Tally) : Type 0 where
+-- the finding of a face g that is the first of more than two with its key, by the second of them and how many they are
+pub record Many (l : Layout) (t : List ℕ) (g second n : ℕ) : Type 0 where
   pub owners : List ℕ
-  pub found : over_face l t g ≡ overfull (cell_of l.at t g) (cell_of l.at t T.second) g T.count (key_row l t g) owners ∷ []
-  pub second : T.second < l.at.faces
-  pub few : T.count ≤ l.at.faces
+  pub found : over_face l t g ≡ overfull (cell_of l.at t g) (cell_of l.at t second) g n (key_row l t g) owners ∷ []
+  pub low : second < l.at.faces
+  pub few : n ≤ l.at.faces
 
-module _ (l : Layout) (t : List ℕ) (f : Faced l t) (g : ℕ) (h : g < l.at.faces) (T : Tally) (is : T ≡ tallied g (alike l t g) (start g)) where
+module _ (l : Layout) (t : List ℕ) (f : Faced l t) (g : ℕ) (h : g < l.at.faces) (T : Tally) (is : T ≡ tallied g (alike l t g) start) where
   -- a face has g's key
   abbrev q : ℕ → Bool
   q = same_as l t g
@@ -143,51 +144,60 @@ module _ (l : Layout) (t : List ℕ) (f : Faced l t) (g : ℕ) (h : g < l.at.fac
   later = next l t f g h
 
   -- either a face before g has the key, or g is the first
-  either : ((T ≡ start g) × (over_face l t g ≡ [])) ⊎ ((T ≡ tallied g (g ∷ later) (start g)) × (over_face l t g ≡ over_of (face_row l t g) (map (face_row l t) later)))
+  either : ((T ≡ start) × (over_face l t g ≡ [])) ⊎ ((T ≡ tallied g (g ∷ later) start) × (over_face l t g ≡ over_of (face_row l t g) (map (face_row l t) later)))
   either = go (tested (any q (up_from 0 g)))
     where
-      one : T ≡ tallied g (keep q (up_from 0 g) ++ (g ∷ later)) (start g)
-      one = is ∙ ap (λ (r : List ℕ). tallied g r (start g)) (alike_is l t f g h)
+      one : T ≡ tallied g (keep q (up_from 0 g) ++ (g ∷ later)) start
+      one = is ∙ ap (λ (r : List ℕ). tallied g r start) (alike_is l t f g h)
 
       two : (b : Bool) → any q (up_from 0 g) ≡ b → over_face l t g ≡ only_if (not b) (over_of (face_row l t g) (map (face_row l t) later))
       two b e = over_is l t f g h ∙ ap (λ (x : Bool). only_if (not x) (over_of (face_row l t g) (map (face_row l t) later))) e
 
-      go : (any q (up_from 0 g) ≡ true) ⊎ (any q (up_from 0 g) ≡ false) → ((T ≡ start g) × (over_face l t g ≡ [])) ⊎ ((T ≡ tallied g (g ∷ later) (start g)) × (over_face l t g ≡ over_of (face_row l t g) (map (face_row l t) later)))
+      go : (any q (up_from 0 g) ≡ true) ⊎ (any q (up_from 0 g) ≡ false) → ((T ≡ start) × (over_face l t g ≡ [])) ⊎ ((T ≡ tallied g (g ∷ later) start) × (over_face l t g ≡ over_of (face_row l t g) (map (face_row l t) later)))
       go (inl a) = inl (one ∙ earlier g q (up_from 0 g) (g ∷ later) a (low_before l t f g h), two true a)
-      go (inr a) = inr (one ∙ ap (λ (r : List ℕ). tallied g (r ++ (g ∷ later)) (start g)) (keep_nothing q (up_from 0 g) a), two false a)
+      go (inr a) = inr (one ∙ ap (λ (r : List ℕ). tallied g (r ++ (g ∷ later)) start) (keep_nothing q (up_from 0 g) a), two false a)
 
   -- a count below three is no finding
   pub over_few : T.count < 3 → over_face l t g ≡ []
   over_few k = ⊎_elim (λ p. p.1) (λ p. p.1 ∙ over_short (face_row l t g) (map (face_row l t) later) (short p.0)) either
     where
-      short : T ≡ tallied g (g ∷ later) (start g) → length (map (face_row l t) later) < 2
+      short : T ≡ tallied g (g ∷ later) start → length (map (face_row l t) later) < 2
       short p = omega (arith, k, length-map later (face_row l t), ap (λ (r : Tally). r.count) p ∙ first_count g later (next_high l t f g h))
 
+  -- nor is it one without a second
+  pub over_none : T.second ≡ None → over_face l t g ≡ []
+  over_none z = ⊎_elim (λ p. p.1) (λ p. p.1 ∙ alone later (next_high l t f g h) p.0) either
+    where
+      alone : (hs : List ℕ) → ((x : ℕ) → elem x hs ≡ true → g ≤ x) → T ≡ tallied g (g ∷ hs) start → over_of (face_row l t g) (map (face_row l t) hs) ≡ []
+      alone [] high p = over_short (face_row l t g) [] (omega arith)
+      alone (x ∷ hs) high p = let e : T.second ≡ Some x = ap (λ (r : Tally). r.second) p ∙ first_second g x hs high in cc
+
   -- with g the first, and those behind it in sight
-  many : (hs : List ℕ) → ((x : ℕ) → elem x hs ≡ true → g ≤ x) → ((x : ℕ) → elem x hs ≡ true → x < l.at.faces) → suc (length hs) ≤ l.at.faces
-      → T ≡ tallied g (g ∷ hs) (start g) → over_face l t g ≡ over_of (face_row l t g) (map (face_row l t) hs) → 3 ≤ T.count → Many l t g T
+  many : (hs : List ℕ) (y : ℕ) → ((x : ℕ) → elem x hs ≡ true → g ≤ x) → ((x : ℕ) → elem x hs ≡ true → x < l.at.faces) → suc (length hs) ≤ l.at.faces
+      → T ≡ tallied g (g ∷ hs) start → over_face l t g ≡ over_of (face_row l t g) (map (face_row l t) hs) → 3 ≤ T.count → T.second ≡ Some y → Many l t g y T.count
   unfolding face_row
-  many [] high low most p e k = absurd (omega (arith, k, ap (λ (r : Tally). r.count) p ∙ first_count g [] high))
-  many (x ∷ hs) high low most p e k =
+  many [] y high low most p e k z = absurd (omega (arith, k, ap (λ (r : Tally). r.count) p ∙ first_count g [] high))
+  many (x ∷ hs) y high low most p e k z =
       let n : T.count ≡ suc (length (x ∷ hs)) = ap (λ (r : Tally). r.count) p ∙ first_count g (x ∷ hs) high in
       let m : suc (length (map (face_row l t) (x ∷ hs))) ≡ T.count = omega (arith, n, length-map (x ∷ hs) (face_row l t)) in
-      let s : T.second ≡ x = ap (λ (r : Tally). r.second) p ∙ first_second g x hs high in
+      let u : T.second ≡ Some x = ap (λ (r : Tally). r.second) p ∙ first_second g x hs high in
+      let s : x ≡ y = cc in
       let os : List ℕ = cell_of l.at t g ∷ map (λ (i : Face). i.cell) (map (face_row l t) (x ∷ hs)) in
       record {
         owners = os;
         found =
             e ∙ over_long (face_row l t g) (map (face_row l t) (x ∷ hs)) (omega (arith, k, m))
-            ∙ ap₂ (λ (y i : ℕ). overfull (cell_of l.at t g) (cell_of l.at t y) g i (sort leb (ring_row l t g)) os ∷ []) (sym s) m
-            ∙ ap (λ (y : List ℕ). overfull (cell_of l.at t g) (cell_of l.at t T.second) g T.count y os ∷ []) (sym (f.keyed g h));
-        second = rw s (low x (head_in x hs));
+            ∙ ap₂ (λ (y i : ℕ). overfull (cell_of l.at t g) (cell_of l.at t y) g i (sort leb (ring_row l t g)) os ∷ []) s m
+            ∙ ap (λ (r : List ℕ). overfull (cell_of l.at t g) (cell_of l.at t y) g T.count r os ∷ []) (sym (f.keyed g h));
+        low = omega (arith, s, low x (head_in x hs));
         few = omega (arith, n, most);
       }
 
   -- a count of three or more is one
-  pub over_many : 3 ≤ T.count → Many l t g T
-  over_many k =
+  pub over_many : (y : ℕ) → T.second ≡ Some y → 3 ≤ T.count → Many l t g y T.count
+  over_many y z k =
       ⊎_elim (λ p. absurd (omega (arith, k, ap (λ (r : Tally). r.count) p.0)))
-      (λ p. many later (next_high l t f g h) (next_low l t f g h) (next_few l t f g h) p.0 p.1 k) either
+      (λ p. many later y (next_high l t f g h) (next_low l t f g h) (next_few l t f g h) p.0 p.1 k z) either
 
 -- a face of a cell is a face
 pub face_in : (l : Layout) (w : List ℕ) → Faced l (input l.at w) → (c g : ℕ) → FaceOf l (input l.at w) c g → g < l.at.faces

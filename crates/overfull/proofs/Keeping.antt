@@ -20,7 +20,6 @@ use Rattle.index.specs.Faces.{cell_of}
 use Rattle.layout.specs.declared.Layout.{Layout}
 use Rattle.layout.specs.Tables.{key_row}
 use Rattle.layout.specs.ByCell.{plain_rules, over_face}
-use Rattle.overfull.specs.declared.Tally.{Tally}
 use Rattle.layout.specs.Kept.{KeptAny}
 use Rattle.overfull.proofs.Found.{Many}
 
@@ -48,16 +47,16 @@ module _ (coords : List Float) where
   none_kept xs s e tol = subst (λ (ys : List Finding). Kept (plain_rules coords tol) ys s s) (sym e) (kept_none (plain_rules coords tol) s)
 
   -- the record of an overfull face kept
-  pub many_kept : (l : Layout) (t : List ℕ) (g : ℕ) (T : Tally) → Many l t g T → (r : Record) (centre : Point) (s u : Sink)
-      → r.kind ≡ 2 → r.first ≡ cell_of l.at t g → r.second ≡ cell_of l.at t T.second → r.a ≡ g → r.b ≡ 0 → r.count ≡ T.count
+  pub many_kept : (l : Layout) (t : List ℕ) (g h n : ℕ) → Many l t g h n → (r : Record) (centre : Point) (s u : Sink)
+      → r.kind ≡ 2 → r.first ≡ cell_of l.at t g → r.second ≡ cell_of l.at t h → r.a ≡ g → r.b ≡ 0 → r.count ≡ n
       → centre ≡ centre_of (points_of coords (key_row l t g)) → KeptOne r centre s u
       → KeptAny coords (over_face l t g) s u × (u.count ≤ s.count + 1)
-  many_kept l t g T m r centre s u e₁ e₂ e₃ e₄ e₅ e₆ e₇ one =
-      let x : Finding = overfull (cell_of l.at t g) (cell_of l.at t T.second) g T.count (key_row l t g) m.owners in
+  many_kept l t g h n m r centre s u e₁ e₂ e₃ e₄ e₅ e₆ e₇ one =
+      let x : Finding = overfull (cell_of l.at t g) (cell_of l.at t h) g n (key_row l t g) m.owners in
       let p : KeptAny coords (x ∷ []) s u = λ tol.
       one (plain_rules coords tol) x
-      (fields_are r (cell_of l.at t g) (cell_of l.at t T.second) g T.count (key_row l t g) m.owners e₁ e₂ e₃ e₄ e₅ e₆)
-      (centre_is coords tol (cell_of l.at t g) (cell_of l.at t T.second) g T.count (key_row l t g) m.owners ∙ sym e₇) in
+      (fields_are r (cell_of l.at t g) (cell_of l.at t h) g n (key_row l t g) m.owners e₁ e₂ e₃ e₄ e₅ e₆)
+      (centre_is coords tol (cell_of l.at t g) (cell_of l.at t h) g n (key_row l t g) m.owners ∙ sym e₇) in
       (λ tol. subst (λ (ys : List Finding). Kept (plain_rules coords tol) ys s u) (sym m.found) (p tol), omega (arith, (p zero64).count))
 
   -- those of one face more

@@ -4,8 +4,8 @@ use mathlib.Core.Path.{◌≡◌, sym, ap, ap₂, ◌∙◌, subst}
 use mathlib.Core.Bool.{true}
 use mathlib.Core.List.{List}
 use native.Mathlib.Omega.{arith}
-use lib.ListN.{length, get_or}
-use lib.Seq.{get_or-take}
+use lib.ListN.{length, get_or, drop, length-take}
+use lib.Seq.{get_or-take, get_or-drop}
 use Rattle.laws.specs.Lists.{keep, elem}
 use Rattle.laws.proofs.Stores.{region-take}
 use Rattle.counting.proofs.CountLaws.{below_suc}
@@ -63,15 +63,25 @@ module _ (l : Layout) (q : Places) (w : List ℕ) (s : Standing l w) (kd : Keyed
       ends_in_lem = let o = within l.at q w room bs v low x y is_x is_y in (o.0, o.1, room)
 
       -- its words are faces
-      pub listed : Listed l w g x y
+      pub listed : Listed l g (rest x y w)
       listed =
           let S = words_of q (input q b) in
           record {
             face = h;
-            order = ends_in_lem.0;
-            within = omega (arith, ends_in_lem);
-            few = omega (arith, x_is l.at q w room bs v low x y is_x is_y, e_is l.at q w room bs v low x y is_x is_y, below_suc v S, below_words q b kd.indexed (suc v), kd.indexed.small.0);
-            faces = λ i a c. subst (λ (n : ℕ). n < l.at.faces) (get_or-take l.at.found w i 0 (omega (arith, c, ends_in_lem))) (all_faces l.at q w room bs v low x y is_x is_y i a c);
+            few =
+                omega (
+                  arith,
+                  length-take (y - x) (drop x w),
+                  x_is l.at q w room bs v low x y is_x is_y,
+                  e_is l.at q w room bs v low x y is_x is_y,
+                  below_suc v S,
+                  below_words q b kd.indexed (suc v),
+                  kd.indexed.small.0,
+                );
+            faces = λ i k.
+                let n : i < y - x = omega (arith, k, length-take (y - x) (drop x w)) in
+                let f = all_faces l.at q w room bs v low x y is_x is_y (x + i) (omega arith) (omega (arith, n)) in
+                rw (get_or-take (y - x) (drop x w) i 0 n ∙ get_or-drop x w i 0 ∙ sym (get_or-take l.at.found w (x + i) 0 (omega (arith, n, ends_in_lem)))) f;
           }
 
       -- and all that have g's sorted ring are among them

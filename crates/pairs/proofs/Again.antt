@@ -1,6 +1,7 @@
 -- What the index leaves any search can ask, and what a search leaves the next can.
 use Prim.Native.Nat.{ℕ}
 use mathlib.Core.Path.{sym, subst}
+use mathlib.Core.Bool.{Bool}
 use mathlib.Core.List.{List, ◌++◌}
 use native.Mathlib.Omega.{arith}
 use lib.ListN.{length}
@@ -8,7 +9,8 @@ use lib.Seq.{length-sets}
 use Rattle.index.specs.declared.Places.{Places}
 use Rattle.index.specs.Faces.{input, offsets_of, index_of, Laid, Room}
 use Rattle.index.proofs.Built.{built, below_found}
-use Rattle.seek.specs.Candidates.{candidates, Ready, Sought}
+use Rattle.seek.specs.declared.Searched.{Searched}
+use Rattle.seek.specs.Candidates.{candidates, Ready, SoughtBy}
 use Rattle.seek.proofs.Searching.{ready_same}
 use Rattle.pairs.specs.Tables.{with_index, ReadyAll}
 
@@ -22,7 +24,7 @@ ready_first p w laid room k h = record {
 }
 
 -- after a search
-pub ready_again : (p : Places) (lo r : ℕ) (w v : List ℕ) → Ready p lo w → Sought p lo w v r → ReadyAll p v
-ready_again p lo r w v ready s k h =
-    subst (Ready p k) (sym s.filled)
+pub ready_again : (way : Bool) (p : Places) (lo : ℕ) (w v : List ℕ) (r : Searched) → Ready p lo w → SoughtBy way p lo w v r → ReadyAll p v
+ready_again way p lo w v r ready s k h =
+    subst (Ready p k) (sym s.sought.filled)
     (ready_same p k w (candidates p (input p w) lo) (record { indexed = ready.indexed; below = ready.below; face = h; room = ready.room }))

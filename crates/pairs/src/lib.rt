@@ -5,11 +5,13 @@ ghost use Rattle.std.specs.Prelude.{◌≡◌, ◌*◌, ◌≤◌, ◌^◌, leng
 ghost use Rattle.laws.specs.Lists.{pairs_of, triples_of};
 ghost use Rattle.index.specs.Faces.{input, base, Laid, Room};
 ghost use Rattle.index.specs.Read.{input_of};
-ghost use Rattle.seek.specs.Candidates.{Ready, SoughtBy};
+ghost use Rattle.seek.specs.Candidates.{Ready, SoughtBy, by_nodes};
 ghost use Rattle.seek.specs.Steps.{Hidden};
 ghost use Rattle.triple_keys.specs.Keys.{Keyed};
 ghost use Rattle.pairs.specs.Tables.{with_index, ReadyAll};
 ghost use Rattle.pairs.specs.Work.{node_work, triple_work, is_by_nodes, Few};
+
+use seek::{Searched, Way};
 
 // Pairs of n things.
 fn pairs_of(n: usize) -> usize
@@ -51,20 +53,24 @@ pub fn triple_work(ix: &index::Index) -> usize
     total
 }
 
-// The search by common nodes is taken where it is at most four times the work of that by triples.
-pub fn by_nodes(ix: &index::Index) -> bool
+// The way that is less work: by common nodes where that is at most four times the work of the way by triples.
+pub fn less_work(ix: &index::Index) -> Way
     requires { Few ix.now.at }
-    ensures { result ≡ is_by_nodes ix.now.at (input_of ix.now) }
+    ensures { by_nodes result ≡ is_by_nodes ix.now.at (input_of ix.now) }
 {
-    node_work(ix) <= 4 * triple_work(ix)
+    if node_work(ix) <= 4 * triple_work(ix) {
+        Way::ByNodes
+    } else {
+        Way::ByTriples
+    }
 }
 
-// Builds the index, once for all faces, and answers which way is taken.
-pub fn prepare(work: &mut [u32], at: index::Places) -> bool
+// Builds the index, once for all faces, and answers which way is less work.
+pub fn prepare(work: &mut [u32], at: index::Places) -> Way
     requires laid { Laid at (input at work.old) }
     requires room { Room at (length work.old) }
     requires few { Few at }
-    ensures value { result ≡ is_by_nodes at (input at work.old) }
+    ensures value { by_nodes result ≡ is_by_nodes at (input at work.old) }
     ensures work_after { work.new ≡ with_index at work.old }
     ensures ready_all { ReadyAll at work.new }
 {
@@ -74,7 +80,26 @@ pub fn prepare(work: &mut [u32], at: index::Places) -> bool
         base: &work[..found],
         at: at,
     };
-    by_nodes(&ix)
+    less_work(&ix)
+}
+
+// The candidates of face lo, sought the way that is asked for.
+fn seek(
+    work: &mut [u32],
+    at: index::Places,
+    by: index::Places,
+    lo: usize,
+    end: usize,
+    way: Way,
+) -> Searched
+    requires ready { Ready at lo work.old × Keyed at by (base at work.old) }
+    requires end_le_faces { (end ≤ at.faces) × Hidden at (input at work.old) lo end }
+    ensures { SoughtBy (by_nodes way) at lo work.old work.new result }
+{
+    match way {
+        Way::ByNodes => seek::seek_by_nodes(work, at, lo, end),
+        Way::ByTriples => triples::seek_by_triples(work, at, by, lo),
+    }
 }
 
 // The candidates of face lo, of which none is before `end`, sought the way that is asked for, as the answer tells; `by` is the second
@@ -85,15 +110,12 @@ pub fn candidates_of(
     by: index::Places,
     lo: usize,
     end: usize,
-    by_nodes: bool,
-) -> seek::Searched
+    way: Way,
+) -> Searched
     requires ready { Ready at lo work.old × Keyed at by (base at work.old) }
     requires end_le_faces { (end ≤ at.faces) × Hidden at (input at work.old) lo end }
-    ensures sought_by { SoughtBy by_nodes at lo work.old work.new result }
+    ensures sought_by { SoughtBy (by_nodes way) at lo work.old work.new result }
     ensures ready_all { ReadyAll at work.new }
 {
-    if by_nodes {
-        return seek::seek_by_nodes(work, at, lo, end);
-    }
-    triples::seek_by_triples(work, at, by, lo)
+    seek(work, at, by, lo, end, way)
 }

@@ -1,40 +1,57 @@
--- Pairs of nodes in the scratch: read one by one, and their findings kept one by one.
-use Prim.Native.Nat.{ℕ, ◌+◌, ◌*◌, ◌≤◌, ◌<◌}
-use mathlib.Core.Path.{◌≡◌, ap, ◌∙◌}
-use mathlib.Core.List.{List, [], ◌∷◌, ◌++◌, map, map-append}
+-- Pairs of nodes that stand as two words each, and their findings kept one by one.
+use Prim.Native.Nat.{ℕ, ◌+◌, ◌<◌}
+use mathlib.Core.Path.{◌≡◌, refl, ap, subst}
+use mathlib.Core.List.{List, [], ◌∷◌, ◌++◌, map}
 use native.Mathlib.Omega.{arith}
 use lib.Ieee.{Float, nan}
 use lib.ListN.{length, get_or, length-map}
-use Rattle.laws.specs.Merging.{region, AllBelow}
-use Rattle.laws.proofs.Bounds.{below_at}
-use Rattle.laws.proofs.Stores.{get_or-region, length-region}
+use Rattle.laws.specs.Merging.{AllBelow}
 use Rattle.findings.specs.Findings.{Finding, repeated}
-use Rattle.pair_sort.specs.Pairs.{pairs_at}
-use Rattle.pair_sort.proofs.PairLaws.{pairs_add, length_pairs}
+use Rattle.pair_sort.specs.Pairs.{pairs_in}
 use Rattle.records.specs.declared.Sink.{Sink}
-use Rattle.records.proofs.Keeping.{kept_then}
+use Rattle.records.proofs.Keeping.{kept_none, kept_then}
 use Rattle.layout.specs.ByCell.{plain_rules}
 use Rattle.repeated_nodes.specs.OfCell.{of_cell}
 use Rattle.layout.specs.Kept.{KeptAny}
 
--- a word of a region whose words are nodes
-pub word_below : (n o k i : ℕ) (w : List ℕ) → o + k ≤ length w → AllBelow n (region o k w) → i < k → get_or w (o + i) 0 < n
-word_below n o k i w f h l =
-    omega (arith, below_at n (region o k w) i h (omega (arith, length-region o k w f, l)), get_or-region o k w i 0 l)
+-- the first pair of words s, and those behind it
+pub record First (n : ℕ) (s x r : List ℕ) : Type 0 where
+  pub low : (get_or x 0 0 < n) × (get_or x 1 0 < n)
+  pub below : AllBelow n r
+  pub pairs : pairs_in s ≡ (get_or x 0 0, get_or x 1 0) ∷ pairs_in r
+  pub long : length s ≡ length r + 2
 
--- the findings of i pairs kept, and that of the next one
-pub kept_next : (coords : List Float) (c o i : ℕ) (w : List ℕ) (s t u : Sink)
-    → KeptAny coords (map (of_cell c) (pairs_at o i w)) s t
-    → KeptAny coords (repeated c (get_or w (o + 2 * i) 0) (get_or w (o + 2 * i + 1) 0) ∷ []) t u
-    → KeptAny coords (map (of_cell c) (pairs_at o (i + 1) w)) s u
-kept_next coords c o i w s t u p q tol =
-    let R = plain_rules coords tol in
-    let one : List Finding = repeated c (get_or w (o + 2 * i) 0) (get_or w (o + 2 * i + 1) 0) ∷ [] in
-    let e : map (of_cell c) (pairs_at o (i + 1) w) ≡ map (of_cell c) (pairs_at o i w) ++ one =
-    ap (map (of_cell c)) (pairs_add o i 1 w) ∙ map-append (of_cell c) (pairs_at o i w) (pairs_at (o + 2 * i) 1 w) in
-    rw e (kept_then R (map (of_cell c) (pairs_at o i w)) one s t u (p tol) (q tol))
+pub first_pair : (n : ℕ) (s x r : List ℕ) → s ≡ x ++ r → length x ≡ 2 → AllBelow n s → First n s x r
+first_pair n s [] r e k h = absurd (omega (arith, k))
+first_pair n s (a ∷ []) r e k h = absurd (omega (arith, k))
+first_pair n s (a ∷ b ∷ c ∷ x) r e k h = absurd (omega (arith, k))
+first_pair n s (a ∷ b ∷ []) r e k h =
+    let low = subst (AllBelow n) e h in
+    record { low = (low.0, low.1.0); below = low.1.1; pairs = ap pairs_in e; long = omega (arith, ap length e) }
+
+-- fewer than two words are no pair
+pub no_pair : (s : List ℕ) → length s < 2 → pairs_in s ≡ []
+no_pair [] h = refl
+no_pair (a ∷ []) h = refl
+no_pair (a ∷ b ∷ s) h = absurd (omega (arith, h))
+
+-- whatever keeps the findings of the pairs left, from u on, keeps those of all pairs, from s on
+abbrev pub KeepsOn : List Float → ℕ → List ℕ → Sink → List ℕ → Sink → Type 0
+KeepsOn coords c pairs s left u =
+    (v : Sink) → KeptAny coords (map (of_cell c) (pairs_in left)) u v → KeptAny coords (map (of_cell c) (pairs_in pairs)) s v
+
+module _ (coords : List Float) (c : ℕ) (pairs : List ℕ) (s : Sink) where
+  -- and once the next one's is kept
+  pub kept_next : (n : ℕ) (left x r : List ℕ) (u t : Sink) → First n left x r → KeepsOn coords c pairs s left u
+      → KeptAny coords (repeated c (get_or x 0 0) (get_or x 1 0) ∷ []) u t → KeepsOn coords c pairs s r t
+  kept_next n left x r u t f go one v p =
+      let more : List Finding = map (of_cell c) (pairs_in r) in
+      go v (λ tol. rw f.pairs (kept_then (plain_rules coords tol) (repeated c (get_or x 0 0) (get_or x 1 0) ∷ []) more u t v (one tol) (p tol)))
+
+  -- and where none is left all are kept
+  pub kept_all : (left : List ℕ) (u : Sink) → length left < 2 → KeepsOn coords c pairs s left u → KeptAny coords (map (of_cell c) (pairs_in pairs)) s u
+  kept_all left u h go = go u (λ tol. rw (no_pair left h) (kept_none (plain_rules coords tol) u))
 
 -- as many are counted as there are pairs
-pub pairs_counted : (coords : List Float) (c o m : ℕ) (w : List ℕ) (s t : Sink) → KeptAny coords (map (of_cell c) (pairs_at o m w)) s t → t.count ≡ s.count + m
-pairs_counted coords c o m w s t p =
-    omega (arith, (p nan).count, length-map (pairs_at o m w) (of_cell c), length_pairs o m w)
+pub pairs_counted : (coords : List Float) (c : ℕ) (ps : List (ℕ × ℕ)) (s t : Sink) → KeptAny coords (map (of_cell c) ps) s t → t.count ≡ s.count + length ps
+pairs_counted coords c ps s t p = omega (arith, (p nan).count, length-map ps (of_cell c))

@@ -1,5 +1,5 @@
 -- What the listing of repeated pairs finds and leaves in the scratch of the layout.
-use Prim.Native.Nat.{ℕ, ◌+◌, ◌*◌, ◌≤◌}
+use Prim.Native.Nat.{ℕ, ◌+◌, ◌-◌, ◌*◌, ◌≤◌}
 use mathlib.Core.Path.{◌≡◌, sym, ap, ◌∙◌, subst}
 use mathlib.Core.List.{List, map}
 use native.Mathlib.Omega.{arith}
@@ -9,8 +9,8 @@ use Rattle.laws.specs.Merging.{region, AllBelow}
 use Rattle.laws.proofs.Stores.{region-take}
 use Rattle.snap.specs.Weld.{welded_by}
 use Rattle.findings.specs.Rules.{repeats_of}
-use Rattle.pair_sort.specs.Pairs.{pairs_in, pairs_at}
-use Rattle.pair_sort.proofs.PairLaws.{pairs_flat, pairs_region}
+use Rattle.pair_sort.specs.Pairs.{flat, pairs_in}
+use Rattle.pair_sort.proofs.PairLaws.{pairs_flat}
 use Rattle.repeats.specs.declared.Regions.{Regions}
 use Rattle.mesh.specs.Rings.{nodes_in}
 use Rattle.repeats.specs.Repeats.{Ready, repeats_in, Listed}
@@ -53,19 +53,26 @@ module _ (l : Layout) (w words : List ℕ) (s : Standing l w) (few : length word
     pub pairs_in_lem : l.pairs + 2 * r ≤ length v
     pairs_in_lem = omega (arith, s.spaced.spare_at, s.spaced.ends, few, d.few, d.size)
 
-    -- the pairs listed are of nodes
-    pub pairs_below : AllBelow l.at.nodes (region l.pairs (2 * r) v)
-    pairs_below = subst (AllBelow l.at.nodes) (sym d.stored) (repeats_below l.at.nodes (welded_by (region l.weld l.at.nodes w)) words known)
+    -- they stand behind one another
+    pub listed : region l.pairs (l.pairs + 2 * r - l.pairs) v ≡ flat (repeats_in (scratch_of l) w words)
+    listed = let n : l.pairs + 2 * r - l.pairs ≡ 2 * r = omega arith in ap (λ (k : ℕ). region l.pairs k v) n ∙ d.stored
 
-    -- they are the cell's findings
-    pub pairs_found : (c : ℕ) → map (of_cell c) (pairs_at l.pairs r v) ≡ repeat_cell l (input l.at w) c words
+    -- they are of nodes
+    pub pairs_below : AllBelow l.at.nodes (region l.pairs (l.pairs + 2 * r - l.pairs) v)
+    pairs_below = subst (AllBelow l.at.nodes) (sym listed) (repeats_below l.at.nodes (welded_by (region l.weld l.at.nodes w)) words known)
+
+    -- and the cell's
+    repeats_are : pairs_in (region l.pairs (l.pairs + 2 * r - l.pairs) v) ≡ repeats_in (scratch_of l) w words
+    repeats_are = ap pairs_in listed ∙ pairs_flat (repeats_in (scratch_of l) w words)
+
+    -- as many as said
+    pub pairs_many : length (pairs_in (region l.pairs (l.pairs + 2 * r - l.pairs) v)) ≡ r
+    pairs_many = ap length repeats_are ∙ sym d.count
+
+    -- so they are the cell's findings
+    pub pairs_found : (c : ℕ) → map (of_cell c) (pairs_in (region l.pairs (l.pairs + 2 * r - l.pairs) v)) ≡ repeat_cell l (input l.at w) c words
     unfolding repeat_cell
-    pairs_found c =
-        ap (map (of_cell c))
-        (sym (pairs_region l.pairs r v pairs_in_lem)
-        ∙ ap pairs_in d.stored
-        ∙ pairs_flat (repeats_in (scratch_of l) w words)
-        ∙ ap (λ (t : List ℕ). repeats_of (welded_by t) words) (sym weld_same))
+    pairs_found c = ap (map (of_cell c)) (repeats_are ∙ ap (λ (t : List ℕ). repeats_of (welded_by t) words) (sym weld_same))
 
     -- and all else stands as before
     pub still_listed : Still l w v

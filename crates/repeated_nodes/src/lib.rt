@@ -2,9 +2,9 @@
 #![tactic(auto)]
 
 ghost use Rattle.std.specs.Prelude.{◌≡◌, [], ◌∷◌, map, ◌+◌, ◌*◌, ◌^◌, ◌≤◌, ◌<◌, length};
-ghost use Rattle.laws.specs.Merging.{region, AllBelow};
+ghost use Rattle.laws.specs.Merging.{AllBelow};
 ghost use Rattle.geometry.specs.Coordinates.{node_count};
-ghost use Rattle.pair_sort.specs.Pairs.{pairs_at};
+ghost use Rattle.pair_sort.specs.Pairs.{pairs_in};
 ghost use Rattle.mesh.specs.Rings.{nodes_in};
 ghost use Rattle.findings.specs.Findings.{repeated};
 ghost use Rattle.index.specs.Faces.{input};
@@ -13,6 +13,7 @@ ghost use Rattle.layout.specs.ByCell.{repeat_cell};
 ghost use Rattle.repeated_nodes.specs.OfCell.{of_cell};
 ghost use Rattle.layout.specs.Kept.{KeptAny};
 
+use layout::Context;
 use records::{Kind, Record, Sink};
 
 // The finding of nodes a and b of cell c.
@@ -35,41 +36,34 @@ fn keep_nodes(coords: &[f64], c: usize, a: u32, b: u32, sink: &mut Sink<'_>)
     sink.keep(r, middle);
 }
 
-// The findings of m pairs of nodes of cell c, which stand from `at` on.
-fn keep_pairs(coords: &[f64], work: &[u32], at: usize, m: usize, c: usize, sink: &mut Sink<'_>)
-    requires c_bound { (c < 2 ^ 32) × (at + 2 * m ≤ length work.now) × AllBelow (node_count coords.now) (region at (2 * m) work.now) }
-    requires few { sink.old.count + m ≤ 2 ^ 57 }
-    ensures { KeptAny coords.now (map (of_cell c) (pairs_at at m work.now)) sink.old sink.new }
+// The findings of pairs of nodes of cell c, which stand as two words each.
+fn keep_pairs(coords: &[f64], pairs: &[u32], c: usize, sink: &mut Sink<'_>)
+    requires c_bound { (c < 2 ^ 32) × AllBelow (node_count coords.now) pairs.now }
+    requires few { sink.old.count + length pairs.now ≤ 2 ^ 57 }
+    ensures { KeptAny coords.now (map (of_cell c) (pairs_in pairs.now)) sink.old sink.new }
 {
-    for i in 0..m {
-        let o = at + 2 * i;
-        keep_nodes(coords, c, work[o], work[o + 1], sink);
+    for pair in pairs.chunks_exact(2) {
+        keep_nodes(coords, c, pair[0], pair[1], sink);
     }
 }
 
 // The repeated nodes of cell c, which has these words.
-pub fn keep_repeated(
-    coords: &[f64],
-    words: &[u32],
-    work: &mut [u32],
-    l: layout::Layout,
-    c: usize,
-    sink: &mut Sink<'_>,
-)
-    requires standing { Standing l work.old }
-    requires c_bound { (c < l.at.cell_count) × (l.at.nodes ≡ node_count coords.now) × (length words.now ≤ l.words) × AllBelow l.at.nodes (nodes_in words.now) }
+pub fn keep_repeated(cx: &Context, words: &[u32], work: &mut [u32], c: usize, sink: &mut Sink<'_>)
+    requires standing { Standing cx.now.layout work.old }
+    requires c_bound { (c < cx.now.layout.at.cell_count) × (length words.now ≤ cx.now.layout.words) × AllBelow cx.now.layout.at.nodes (nodes_in words.now) }
     requires few { sink.old.count ≤ 2 ^ 56 }
-    ensures kept_any { KeptAny coords.now (repeat_cell l (input l.at work.old) c words.now) sink.old sink.new }
-    ensures upper_bound { (sink.new.count ≤ sink.old.count + 2 ^ 20) × Still l work.old work.new }
+    ensures kept_any { KeptAny cx.now.coords.now (repeat_cell cx.now.layout (input cx.now.layout.at work.old) c words.now) sink.old sink.new }
+    ensures upper_bound { (sink.new.count ≤ sink.old.count + 2 ^ 20) × Still cx.now.layout work.old work.new }
 {
-    let at = l.at;
+    let l = cx.layout;
+    // field by field: crate repeats knows no layout, and the layout no repeats, so neither has a From
     let scratch = repeats::Regions {
-        nodes: at.nodes,
+        nodes: l.at.nodes,
         weld: l.weld,
         last: l.last,
         pairs: l.pairs,
         spare: l.spare,
     };
     let m = repeats::list_repeats(words, work, scratch);
-    keep_pairs(coords, work, l.pairs, m, c, sink);
+    keep_pairs(cx.coords, &work[l.pairs..l.pairs + 2 * m], c, sink);
 }

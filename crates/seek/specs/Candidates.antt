@@ -5,7 +5,8 @@ use Rattle.laws.specs.Lists.{keep, up_from, elem, eql}
 use Rattle.index.specs.declared.Places.{Places}
 use Rattle.index.specs.Faces.{input, base, cell_of, bow_of, nodes_of, Indexed}
 use Rattle.seek.specs.declared.Searched.{Searched}
-use Rattle.seek.specs.declared.Searched.TheVariants.{ByNodes, ByTriples}
+use Rattle.seek.specs.declared.Way.{Way}
+use Rattle.seek.specs.declared.Way.TheVariants.{ByNodes, ByTriples}
 use Rattle.seek.specs.declared.Tally.{Tally}
 
 -- the nodes of a that b has too
@@ -39,15 +40,18 @@ pub record Sought (p : Places) (lo : ℕ) (w v : List ℕ) (r : ℕ) : Type 0 wh
 
 -- ---- which way a search went, as it tells itself
 
+-- by common nodes, and not by node triples
+abbrev pub by_nodes : Way → Bool
+by_nodes ByNodes = true
+by_nodes ByTriples = false
+
 -- how many candidates were found
 abbrev pub found_in : Searched → ℕ
-found_in (ByNodes n) = n
-found_in (ByTriples n) = n
+found_in r = r.count
 
 -- by common nodes, and not by node triples
 abbrev pub went_by_nodes : Searched → Bool
-went_by_nodes (ByNodes n) = true
-went_by_nodes (ByTriples n) = false
+went_by_nodes r = by_nodes r.way
 
 -- the same of a search by common nodes (`by` is true) or by node triples
 pub record SoughtBy (by : Bool) (p : Places) (lo : ℕ) (w v : List ℕ) (r : Searched) : Type 0 where

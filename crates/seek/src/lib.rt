@@ -8,57 +8,44 @@ ghost use Rattle.counting.specs.Counts.{below};
 ghost use Rattle.index.specs.Faces.{input, base, words_of};
 ghost use Rattle.index.specs.Read.{input_of, set_of};
 ghost use Rattle.merge.specs.Runs.{rest, Ends};
-ghost use Rattle.seek.specs.Candidates.{common, shares, Ready, Sought, found_in, went_by_nodes, SoughtBy, TalliedMore};
+ghost use Rattle.seek.specs.Candidates.{common, shares, Ready, Sought, went_by_nodes, SoughtBy, TalliedMore};
 ghost use Rattle.seek.specs.Steps.{Runs, Hidden, Rising, AllRising, Passed, Begun, one, apart};
 
-// What a search answers: how many candidates it found, under the name of its own way.
+// The two ways of seeking candidates: by common nodes, or by node triples.
+#[derive(Clone, Copy, Debug, PartialEq, Eq)]
+pub enum Way {
+    ByNodes,
+    ByTriples,
+}
+
+// What a search answers: which way it went, and how many candidates it found.
 #[derive(Clone, Copy)]
-pub enum Searched {
-    ByNodes(usize),
-    ByTriples(usize),
+pub struct Searched {
+    pub way: Way,
+    pub count: usize,
 }
 
 // How many faces were sought by each way.
-#[derive(Clone, Copy)]
+#[derive(Clone, Copy, Default)]
 pub struct Tally {
     pub nodes: usize,
     pub triples: usize,
 }
 
-// No face was sought.
-pub fn unsought() -> Tally
-    ensures { (result.nodes ≡ 0) × (result.triples ≡ 0) }
-{
-    Tally {
-        nodes: 0,
-        triples: 0,
-    }
-}
-
 impl Searched {
-    // How many candidates were found.
-    pub fn count(self) -> usize
-        ensures { result ≡ found_in self }
-    {
-        match self {
-            Searched::ByNodes(n) => n,
-            Searched::ByTriples(n) => n,
-        }
-    }
-
     // One face more, sought this way.
     pub fn tallied(self, t: Tally) -> Tally
         requires { (t.nodes < 2 ^ 40) × (t.triples < 2 ^ 40) }
         ensures { TalliedMore (went_by_nodes self) 1 t result }
     {
-        match self {
-            Searched::ByNodes(_) => Tally {
+        match self.way {
+            Way::ByNodes => Tally {
                 nodes: t.nodes + 1,
-                triples: t.triples,
+                ..t
             },
-            Searched::ByTriples(_) => Tally {
-                nodes: t.nodes,
+            Way::ByTriples => Tally {
                 triples: t.triples + 1,
+                ..t
             },
         }
     }
@@ -232,7 +219,10 @@ pub fn seek_by_nodes(work: &mut [u32], at: index::Places, lo: usize, end: usize)
         at: at,
     };
     if ix.bow_at(lo) {
-        return Searched::ByNodes(0);
+        return Searched {
+            way: Way::ByNodes,
+            count: 0,
+        };
     }
     let mut runs = Merge {
         count: 0,
@@ -241,5 +231,8 @@ pub fn seek_by_nodes(work: &mut [u32], at: index::Places, lo: usize, end: usize)
     };
     open_runs(&ix, lo, &mut runs);
     skip_runs(ix.base, &mut runs, end);
-    Searched::ByNodes(merge_runs(work, at, lo, &mut runs))
+    Searched {
+        way: Way::ByNodes,
+        count: merge_runs(work, at, lo, &mut runs),
+    }
 }

@@ -11,6 +11,8 @@ ghost use Rattle.seek.specs.Candidates.{common, shares, Ready, Sought, SoughtBy}
 ghost use Rattle.triple_keys.specs.Keys.{Keyed};
 ghost use Rattle.triples.specs.Hits.{hits_by, Open, Added, Beside, Known, NodesAt, AddedRare};
 
+use seek::{Searched, Way};
+
 // Two places of keys, the lower first, and how many faces have these.
 #[derive(Clone, Copy)]
 pub struct Two {
@@ -233,16 +235,10 @@ fn seek_short(
     walk_rare(work, at, by, lo, n, s, e)
 }
 
-// By node triples: every later face that has a triple of lo's nodes is met. Where both are short it stands in the list of the triple's
-// number, else in that of a node of the triple that is not left out. None where lo's cell is a bow-tie.
-pub fn seek_by_triples(
-    work: &mut [u32],
-    at: index::Places,
-    by: index::Places,
-    lo: usize,
-) -> seek::Searched
+// The candidates of face lo by node triples; answers how many there are.
+fn seek(work: &mut [u32], at: index::Places, by: index::Places, lo: usize) -> usize
     requires { Ready at lo work.old × Keyed at by (base at work.old) }
-    ensures { SoughtBy false at lo work.old work.new result }
+    ensures { Sought at lo work.old work.new result }
 {
     let found = at.found;
     let ix = index::Index {
@@ -250,17 +246,33 @@ pub fn seek_by_triples(
         at: at,
     };
     if ix.bow_at(lo) {
-        return seek::Searched::ByTriples(0);
+        return 0;
     }
     let s = ix.set_start(lo);
     let k = ix.set_size(lo);
     if k < 3 {
-        return seek::Searched::ByTriples(0);
+        return 0;
     }
+    let e = s + k;
     if k <= 4 {
-        let n = seek_short(work, at, by, lo, s, s + k);
-        return seek::Searched::ByTriples(n);
+        return seek_short(work, at, by, lo, s, e);
     }
-    let n = walk_rare(work, at, at, lo, 0, s, s + k);
-    seek::Searched::ByTriples(n)
+    walk_rare(work, at, at, lo, 0, s, e)
+}
+
+// By node triples: every later face that has a triple of lo's nodes is met. Where both are short it stands in the list of the triple's
+// number, else in that of a node of the triple that is not left out. None where lo's cell is a bow-tie.
+pub fn seek_by_triples(
+    work: &mut [u32],
+    at: index::Places,
+    by: index::Places,
+    lo: usize,
+) -> Searched
+    requires { Ready at lo work.old × Keyed at by (base at work.old) }
+    ensures { SoughtBy false at lo work.old work.new result }
+{
+    Searched {
+        way: Way::ByTriples,
+        count: seek(work, at, by, lo),
+    }
 }

@@ -5,13 +5,13 @@ use Rattle.indexes.proofs.index_faces.Goals as goal
 
 pub index_keys-by-requires-clause-indexed : goal.index_keys-by-requires-clause-indexed
 index_keys-by-requires-clause-indexed c =
-    let x = c.prepare-by_nodes in
+    let x = c.prepare-way in
     (stands c.args.l c.args.work.now c.requires x.new.work x.ensures.work_after).indexed
 
 pub returns-clause-standing : goal.returns-clause-standing
 returns-clause-standing c =
     let l = c.args.l in
-    let x = c.prepare-by_nodes in
+    let x = c.prepare-way in
     let y = c.index_keys-by in
     let s = stands l c.args.work.now c.requires x.new.work x.ensures.work_after in
     let same = y.ensures.work_unchanged in
@@ -21,7 +21,7 @@ pub returns-clause-work_unchanged : goal.returns-clause-work_unchanged
 returns-clause-work_unchanged c =
     let l = c.args.l in
     let w = c.args.work.now in
-    let x = c.prepare-by_nodes in
+    let x = c.prepare-way in
     let y = c.index_keys-by in
     let s = stands l w c.requires x.new.work x.ensures.work_after in
     let same = y.ensures.work_unchanged in

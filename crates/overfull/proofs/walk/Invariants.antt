@@ -1,14 +1,14 @@
-use Prim.Native.Nat.{◌-◌, ◌≤◌}
+use Prim.Native.Nat.{◌≤◌}
 use mathlib.Core.Path.{◌≡◌}
+use lib.ListN.{drop}
 use Rattle.laws.specs.Lists.{keep}
-use Rattle.index.specs.Faces.{input}
-use Rattle.merge.specs.Runs.{rest}
+use Rattle.layout.specs.Views.{faced_in}
 use Rattle.overfull.specs.Alike.{same_as, start, tallied}
 use Rattle.overfull.proofs.walk.Given as goal
 
-abbrev pub invariant-loop-i : goal.invariant-loop-i
-invariant-loop-i l = record {
-  few : l.s.count ≤ l.i - l.x;
-  tallied_on : tallied l.g (keep (same_as l.l (input l.l.at l.work) l.g) (rest l.i l.e l.work)) l.s
-      ≡ tallied l.g (keep (same_as l.l (input l.l.at l.work) l.g) (rest l.x l.e l.work)) (start l.g);
+abbrev pub invariant-loop-h : goal.invariant-loop-h
+invariant-loop-h l = record {
+  few : l.s.count ≤ l.h-index;
+  tallied_on : tallied l.g (keep (same_as l.t.layout.now (faced_in l.t) l.g) (drop l.h-index l.faces)) l.s
+      ≡ tallied l.g (keep (same_as l.t.layout.now (faced_in l.t) l.g) l.faces) start;
 }

@@ -16,4 +16,4 @@ pub returns-clause-value : goal.returns-clause-value
 returns-clause-value c =
     let a = c.args in
     let q = c.requires in
-    c.by_nodes.ensures ∙ ap (λ (v : List ℕ). is_by_nodes a.at (input a.at (base a.at v))) c.build_index.ensures ∙ ap (is_by_nodes a.at) (input_is a.at a.work.now q.laid q.room)
+    c.less_work.ensures ∙ ap (λ (v : List ℕ). is_by_nodes a.at (input a.at (base a.at v))) c.build_index.ensures ∙ ap (is_by_nodes a.at) (input_is a.at a.work.now q.laid q.room)

@@ -1,34 +1,49 @@
--- `repeated_nodes::keep_pairs` meets its contract. The invariant: the findings of the first i pairs are kept.
-use Prim.Native.Nat.{◌+◌, ◌*◌, ◌/◌}
-use lib.ListN.{length}
-use mathlib.Core.Path.{◌≡◌}
+-- `repeated_nodes::keep_pairs` meets its contract. The invariant: with the findings of the pairs left all are kept.
+use mathlib.Core.Path.{◌≡◌, sym, ap, ◌∙◌}
 use native.Mathlib.Omega.{arith}
-use Rattle.records.proofs.Keeping.{kept_none}
-use Rattle.layout.specs.ByCell.{plain_rules}
-use Rattle.repeated_nodes.proofs.Listed.{word_below, kept_next, pairs_counted}
+use lib.ListN.{length}
+use lib.Ieee.{nan}
+use Rattle.std.specs.Slice.Iter.{chunks_exact_rest, chunks_exact_size}
+use Rattle.geometry.specs.Coordinates.{node_count}
+use Rattle.repeated_nodes.proofs.Listed.{first_pair, kept_next, kept_all}
 use Rattle.repeated_nodes.proofs.keep_pairs.Goals as goal
 
-pub loop-i-init : goal.loop-i-init
-loop-i-init c tol = kept_none (plain_rules c.args.coords.now tol) c.args.sink.now
+pub loop-pair-init : goal.loop-pair-init
+loop-pair-init c =
+    let a = c.args in
+    let k = c.chunks_exact-pair-items.ensures in
+    let same = c.into_iter-pair-iterator.ensures.into_iter_gives in
+    let all : chunks_exact_rest c.into_iter-pair-iterator.result ≡ a.pairs.now = ap chunks_exact_rest same ∙ k.rest in
+    record {
+      two = ap chunks_exact_size same ∙ k.size;
+      below = rw all c.requires.c_bound.1;
+      few = omega (arith, ap length all, c.requires.few);
+      keeps_on = λ v p tol. rw (sym all) (p tol);
+    }
 
 pub keep_nodes-requires : goal.keep_nodes-requires
 keep_nodes-requires c =
+    let v = c.loop-pair.invariant in
+    let n = c.in-Some.ensures.steps.1 in
+    let f = first_pair (node_count c.args.coords.now) _ c.in-Some.pair.now _ n.0 (n.1 ∙ v.two) v.below in
+    record { c_bound = (c.requires.c_bound.0, f.low.0, f.low.1); few = omega (arith, f.long, v.few) }
+
+pub loop-pair-preserved : goal.loop-pair-preserved
+loop-pair-preserved c =
     let a = c.args in
-    let i = c.loop-i.i in
-    let e : a.at + 2 * i + 1 ≡ a.at + (2 * i + 1) = omega arith in
-    let low = word_below (length a.coords.now / 3) a.at (2 * a.m) in record {
-      c_bound = (
-        c.requires.c_bound.0,
-        low (2 * i) a.work.now c.requires.c_bound.1 c.requires.c_bound.2 (omega arith),
-        rw e (low (2 * i + 1) a.work.now c.requires.c_bound.1 c.requires.c_bound.2 (omega arith)),
-      );
-      few = omega (arith, pairs_counted a.coords.now a.c a.at i a.work.now a.sink.now c.loop-i.sink c.loop-i.invariant);
+    let v = c.loop-pair.invariant in
+    let n = c.in-Some.ensures.steps.1 in
+    let f = first_pair (node_count a.coords.now) _ c.in-Some.pair.now _ n.0 (n.1 ∙ v.two) v.below in
+    let k = c.keep_nodes.ensures in
+    record {
+      two = c.in-Some.ensures.steps.0 ∙ v.two;
+      below = f.below;
+      few = omega (arith, f.long, v.few, (k nan).count);
+      keeps_on = kept_next a.coords.now a.c a.pairs.now a.sink.now (node_count a.coords.now) _ c.in-Some.pair.now _ c.loop-pair.sink _ f v.keeps_on k;
     }
 
-pub loop-i-preserved : goal.loop-i-preserved
-loop-i-preserved c =
-    let a = c.args in
-    kept_next a.coords.now a.c a.at c.loop-i.i a.work.now a.sink.now c.loop-i.sink _ c.loop-i.invariant c.keep_nodes.ensures
-
 pub returns : goal.returns
-returns c tol = let e : c.loop-i.i ≡ c.args.m = omega arith in rw e at (c.loop-i.invariant tol)
+returns c =
+    let a = c.args in
+    let v = c.loop-pair.invariant in
+    kept_all a.coords.now a.c a.pairs.now a.sink.now (chunks_exact_rest c.loop-pair.pair-iterator) c.loop-pair.sink (omega (arith, c.in-None.ensures.steps.1.0, v.two)) v.keeps_on
