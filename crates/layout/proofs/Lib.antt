@@ -1,5 +1,6 @@
--- What follows from the tables' standing.
+-- What follows from the tables' standing, and a slice split in two.
 pub mod Reading
 pub mod Ringing
 pub mod Again
 pub mod Owning
+pub mod Split

@@ -1,9 +1,9 @@
 // Where the tables of a model's faces, the index and the scratch of the check stand in its one lent work slice.
 #![tactic(auto)]
 
-ghost use Rattle.std.specs.Prelude.{◌≡◌, ◌+◌, ◌≤◌, ◌<◌, length, get_or, take};
+ghost use Rattle.std.specs.Prelude.{◌≡◌, ◌+◌, ◌≤◌, ◌<◌, length, get_or};
 ghost use Rattle.index.specs.Faces.{input, cell_of};
-ghost use Rattle.layout.specs.Tables.{first_of, Faced, Ringed};
+ghost use Rattle.layout.specs.Tables.{first_of, Faced};
 
 mod context; // what the passes over the tables take together
 mod rings; // the tables read while only those below the marks of bow-ties stand
@@ -67,12 +67,4 @@ pub fn cell_of(work: &[u32], l: Layout, g: usize) -> usize
     ensures { (result ≡ cell_of l.at (input l.at work.now) g) × (result < l.at.cell_count) }
 {
     Tables { work, layout: &l }.cell_of(g)
-}
-
-// A row while the tables below the marks of bow-ties stand, and no more: where the ring of face g starts; for g past the last, where all end.
-pub fn ring_row(work: &[u32], l: Layout, g: usize) -> usize
-    requires { Ringed l (take l.at.bows work.now) × (g ≤ l.at.faces) }
-    ensures { (result ≡ get_or (take l.at.bows work.now) (l.rows + g) 0) × (result ≤ l.total) }
-{
-    Rings { work, layout: &l }.row(g)
 }

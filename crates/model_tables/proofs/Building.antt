@@ -16,7 +16,6 @@ use Rattle.mesh.specs.Model.{Model, Raw, cells_of}
 use Rattle.mesh.specs.Rings.{nodes_in, rings_of, node_set}
 use Rattle.mesh.specs.Acceptance.{model_refusal, faces_in, work_needed}
 use Rattle.mesh.specs.Steps.{ring_total, Tallied}
-use Rattle.mesh.specs.declared.CellTally.{CellTally}
 use Rattle.mesh.proofs.Accepts.{accepts}
 use Rattle.mesh.proofs.NodeNumbers.{cells_below}
 use Rattle.faces.proofs.Rings.{faces_are_lem, words_are}

@@ -20,7 +20,7 @@ ghost use Rattle.node_sets.specs.Sets.{keys_of, sets_from};
 ghost use Rattle.tables.specs.Owners.{owners_from};
 ghost use Rattle.model_tables.specs.Planned.{Searched, Planned};
 
-use layout::Layout;
+use layout::{Context, Layout};
 use mesh::Accepted;
 
 // Where the regions of the scratch start.
@@ -125,11 +125,11 @@ fn put_weld(model: &Accepted, work: &mut [u32])
 }
 
 // The rings of all cells, where each ring starts, and the first face of each cell.
-fn put_rings(model: &Accepted, work: &mut [u32], l: Layout)
-    requires rings_in_bounds { l.rings + ring_total (rings_in (lent model.now.model)) ≤ length work.old }
-    requires rows_in_bounds { l.rows + (length (rings_in (lent model.now.model)) + 1) ≤ length work.old }
-    requires firsts_in_bounds { l.firsts + (length model.now.model.kinds.now + 1) ≤ length work.old }
-    ensures { work.new ≡ sets (sets (sets work.old l.rings (each (λ r. r) (rings_in (lent model.now.model)))) l.rows (starts_of 0 (rings_in (lent model.now.model)))) l.firsts (starts_of 0 (map rings_of (cells_of (lent model.now.model)))) }
+fn put_rings(model: &Accepted, work: &mut [u32], l: &Layout)
+    requires rings_in_bounds { l.now.rings + ring_total (rings_in (lent model.now.model)) ≤ length work.old }
+    requires rows_in_bounds { l.now.rows + (length (rings_in (lent model.now.model)) + 1) ≤ length work.old }
+    requires firsts_in_bounds { l.now.firsts + (length model.now.model.kinds.now + 1) ≤ length work.old }
+    ensures { work.new ≡ sets (sets (sets work.old l.now.rings (each (λ r. r) (rings_in (lent model.now.model)))) l.now.rows (starts_of 0 (rings_in (lent model.now.model)))) l.now.firsts (starts_of 0 (map rings_of (cells_of (lent model.now.model)))) }
 {
     rings::put_cells(model, work, l.rings);
     tables::put_rows(model, work, l.rows);
@@ -137,32 +137,37 @@ fn put_rings(model: &Accepted, work: &mut [u32], l: Layout)
 }
 
 // The marks of bow-ties, and the cell of each face.
-fn put_marks(model: &Accepted, work: &mut [u32], l: Layout)
-    requires ringed { Ringed l (take l.at.bows work.old) }
-    requires bows_in_bounds { (l.at.bows + l.at.cell_count ≤ length work.old) × (l.at.nodes ≡ node_count model.now.model.coords.now) }
-    requires cells_in_bounds { l.at.cells + length (rings_in (lent model.now.model)) ≤ length work.old }
-    ensures { work.new ≡ sets (sets work.old l.at.bows (map (λ c. bit (cell_bow model.now.model.coords.now model.now.model.tolerance l (take l.at.bows work.old) c)) (up_from 0 l.at.cell_count))) l.at.cells (owners_from 0 (cells_of (lent model.now.model))) }
+fn put_marks(model: &Accepted, work: &mut [u32], l: &Layout)
+    requires ringed { Ringed l.now (take l.now.at.bows work.old) }
+    requires bows_in_bounds { (l.now.at.bows + l.now.at.cell_count ≤ length work.old) × (l.now.at.nodes ≡ node_count model.now.model.coords.now) }
+    requires cells_in_bounds { l.now.at.cells + length (rings_in (lent model.now.model)) ≤ length work.old }
+    ensures { work.new ≡ sets (sets work.old l.now.at.bows (map (λ c. bit (cell_bow model.now.model.coords.now model.now.model.tolerance l.now (take l.now.at.bows work.old) c)) (up_from 0 l.now.at.cell_count))) l.now.at.cells (owners_from 0 (cells_of (lent model.now.model))) }
 {
-    bow_cells::put_bows(model.model.coords, model.model.tolerance, work, l);
+    let ctx = Context {
+        coords: model.model.coords,
+        tolerance: model.model.tolerance,
+        layout: *l,
+    };
+    bow_cells::put_bows(&ctx, work);
     tables::put_owners(model, work, l.at.cells);
 }
 
 // The keys and node sets of all faces; answers how many words the sets have.
-fn put_nodes(work: &mut [u32], l: Layout) -> usize
-    requires { Ringed l (take l.at.bows work.old) × (l.at.bows ≤ l.keys) × (l.keys + l.total ≤ l.at.starts) × (l.at.starts + (l.at.faces + 1) ≤ l.at.sets) × (l.at.sets + l.total ≤ length work.old) × (l.total < 2 ^ 32) }
-    ensures { (result ≡ length (each (λ s. s) (sets_from l (take l.at.bows work.old) 0 l.at.faces))) × (work.new ≡ sets (sets (sets work.old l.keys (keys_of l (take l.at.bows work.old) l.at.faces)) l.at.starts (starts_of 0 (sets_from l (take l.at.bows work.old) 0 l.at.faces))) l.at.sets (each (λ s. s) (sets_from l (take l.at.bows work.old) 0 l.at.faces))) }
+fn put_nodes(work: &mut [u32], l: &Layout) -> usize
+    requires { Ringed l.now (take l.now.at.bows work.old) × (l.now.at.bows ≤ l.now.keys) × (l.now.keys + l.now.total ≤ l.now.at.starts) × (l.now.at.starts + (l.now.at.faces + 1) ≤ l.now.at.sets) × (l.now.at.sets + l.now.total ≤ length work.old) × (l.now.total < 2 ^ 32) }
+    ensures { (result ≡ length (each (λ s. s) (sets_from l.now (take l.now.at.bows work.old) 0 l.now.at.faces))) × (work.new ≡ sets (sets (sets work.old l.now.keys (keys_of l.now (take l.now.at.bows work.old) l.now.at.faces)) l.now.at.starts (starts_of 0 (sets_from l.now (take l.now.at.bows work.old) 0 l.now.at.faces))) l.now.at.sets (each (λ s. s) (sets_from l.now (take l.now.at.bows work.old) 0 l.now.at.faces))) }
 {
     node_sets::put_keys(work, l);
     node_sets::put_sets(work, l)
 }
 
 // The marks of cells and the last nodes are zero.
-fn clear_scratch(work: &mut [u32], l: Layout)
-    requires { (l.marks + l.at.cell_count ≤ length work.old) × (l.last + l.at.nodes ≤ length work.old) }
-    ensures { work.new ≡ sets (sets work.old l.marks (replicate l.at.cell_count 0)) l.last (replicate l.at.nodes 0) }
+fn clear_scratch(work: &mut [u32], l: &Layout)
+    requires { (l.now.marks + l.now.at.cell_count ≤ length work.old) × (l.now.last + l.now.at.nodes ≤ length work.old) }
+    ensures { work.new ≡ sets (sets work.old l.now.marks (replicate l.now.at.cell_count 0)) l.now.last (replicate l.now.at.nodes 0) }
 {
-    snap::clear(work, l.marks, l.at.cell_count);
-    snap::clear(work, l.last, l.at.nodes);
+    work[l.marks..l.marks + l.at.cell_count].fill(0);
+    work[l.last..l.last + l.at.nodes].fill(0);
 }
 
 // Lays out and fills all tables of an accepted model.
@@ -182,10 +187,10 @@ pub fn build_tables(model: &Accepted, work: &mut [u32]) -> Layout
         0,
     );
     put_weld(model, work);
-    put_rings(model, work, l);
-    put_marks(model, work, l);
-    let k = put_nodes(work, l);
-    clear_scratch(work, l);
+    put_rings(model, work, &l);
+    put_marks(model, work, &l);
+    let k = put_nodes(work, &l);
+    clear_scratch(work, &l);
     plan(
         model.ring_words,
         model.faces,

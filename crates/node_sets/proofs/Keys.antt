@@ -1,6 +1,6 @@
--- Keys: a ring sorted where it was copied to, and the keys of all faces one after the other.
+-- The keys of all faces one after the other.
 use Prim.Native.Nat.{ℕ, zero, suc, ◌+◌, ◌-◌, ◌≤◌, ◌<◌}
-use mathlib.Core.Path.{◌≡◌, sym, ap, ap₂, ◌∙◌}
+use mathlib.Core.Path.{◌≡◌, sym, ap, ◌∙◌}
 use mathlib.Core.List.{List, [], ◌∷◌, ◌++◌, append-nil}
 use native.Mathlib.Nat.{zero-add}
 use native.Mathlib.Numerals.{add-one}
@@ -12,17 +12,11 @@ use Rattle.laws.specs.Lists.{each, sort, up_from}
 use Rattle.laws.specs.Merging.{region}
 use Rattle.laws.proofs.ListLaws.{each_append, up_from_snoc}
 use Rattle.laws.proofs.Sorting.{length-sort}
-use Rattle.laws.proofs.Stores.{region_same, sets_over, sets_append, length-region}
+use Rattle.laws.proofs.Stores.{sets_append, length-region}
 use Rattle.index.proofs.Entries.{up_from_split}
 use Rattle.layout.specs.declared.Layout.{Layout}
 use Rattle.layout.specs.Tables.{ring_row, Ringed}
 use Rattle.node_sets.specs.Sets.{keys_of}
-
--- words put at o and sorted there
-pub sorted_there : (w v u r : List ℕ) (o n : ℕ) → length r ≡ n → o + n ≤ length w → v ≡ sets w o r → u ≡ sets v o (sort leb (region o n v)) → u ≡ sets w o (sort leb r)
-sorted_there w v u r o n long room put sorted =
-    let is : region o n v ≡ r = ap₂ (λ (k : ℕ) (x : List ℕ). region o k x) (sym long) put ∙ region_same w o r (omega arith) in
-    sorted ∙ ap₂ (λ (x y : List ℕ). sets x o (sort leb y)) put is ∙ sets_over w o r (sort leb r) (omega (arith, length-sort leb r))
 
 module _ (l : Layout) (t : List ℕ) (f : Ringed l t) where
   -- the key of a face
@@ -54,10 +48,10 @@ module _ (l : Layout) (t : List ℕ) (f : Ringed l t) where
       omega (arith, n, e, keys_long g (omega arith), key_long g h, f.rising g h)
 
   -- one key more is put
-  pub keys_more : (w : List ℕ) (o g : ℕ) → g < l.at.faces → sets (sets w o (keys_of l t g)) (o + get_or t (l.rows + g) 0) (key g) ≡ sets w o (keys_of l t (g + 1))
-  keys_more w o g h =
-      sym (ap (sets w o) (keys_next g) ∙ sets_append w o (keys_of l t g) (key g)
-      ∙ ap (λ (k : ℕ). sets (sets w o (keys_of l t g)) (o + k) (key g)) (keys_long g (omega arith)))
+  pub keys_more : (w : List ℕ) (g : ℕ) → g < l.at.faces → sets (sets w 0 (keys_of l t g)) (get_or t (l.rows + g) 0) (key g) ≡ sets w 0 (keys_of l t (g + 1))
+  keys_more w g h =
+      sym (ap (sets w 0) (keys_next g) ∙ sets_append w 0 (keys_of l t g) (key g)
+      ∙ ap (λ (k : ℕ). sets (sets w 0 (keys_of l t g)) k (key g)) (zero-add (length (keys_of l t g)) ∙ keys_long g (omega arith)))
 
   -- the key of face g among all
   pub key_at : (g : ℕ) → g < l.at.faces → region (get_or t (l.rows + g) 0) (get_or t (l.rows + (g + 1)) 0 - get_or t (l.rows + g) 0) (keys_of l t l.at.faces) ≡ key g

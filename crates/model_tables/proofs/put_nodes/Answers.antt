@@ -8,9 +8,9 @@ put_keys-requires c =
     let p = c.requires in (p.0, p.1, omega (arith, p.2, p.3, p.4))
 
 pub put_sets-requires : goal.put_sets-requires
-put_sets-requires c = keys_stand c.args.l c.args.work.now _ c.requires c.put_keys.ensures
+put_sets-requires c = keys_stand c.args.l.now c.args.work.now _ c.requires c.put_keys.ensures
 
 pub returns : goal.returns
 returns c =
     let e = c.put_sets.ensures in
-    sets_stand c.args.l c.args.work.now _ c.requires c.put_keys.ensures _ _ (e.0, e.2)
+    sets_stand c.args.l.now c.args.work.now _ c.requires c.put_keys.ensures _ _ (e.0, e.2)

@@ -22,5 +22,5 @@ returns c =
     let a = c.args in
     let m = lent a.model.now.model in
     c.put_firsts.ensures
-    ∙ ap (λ (w : List ℕ). sets w a.l.firsts (starts_of 0 (map rings_of (cells_of m))))
-    (c.put_rows.ensures ∙ ap (λ (w : List ℕ). sets w a.l.rows (starts_of 0 (rings_in m))) c.put_cells.ensures.1)
+    ∙ ap (λ (w : List ℕ). sets w a.l.now.firsts (starts_of 0 (map rings_of (cells_of m))))
+    (c.put_rows.ensures ∙ ap (λ (w : List ℕ). sets w a.l.now.rows (starts_of 0 (rings_in m))) c.put_cells.ensures.1)
