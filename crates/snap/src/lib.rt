@@ -3,6 +3,7 @@
 
 mod node_order;
 mod passing;
+mod space;
 mod sweeping;
 
 ghost use Rattle.std.specs.Prelude.{◌≡◌, false, ◌+◌, ◌^◌, ◌≤◌, ◌<◌, length, replicate};
@@ -11,9 +12,11 @@ ghost use Rattle.std.specs.Float.Ieee.{eq};
 ghost use Rattle.laws.specs.Lists.{up_from};
 ghost use Rattle.laws.specs.Merging.{region, AllBelow};
 ghost use Rattle.floats.specs.Floats.{zero64};
-ghost use Rattle.geometry.specs.Coordinates.{node_count, coordinates_off};
+ghost use Rattle.geometry.specs.Coordinates.{node_count};
 ghost use Rattle.snap.specs.Weld.{welded};
 ghost use Rattle.snap.specs.Steps.{But, number_of, numbers};
+
+pub use space::Space;
 
 // n words from k on are 0.
 pub fn clear(work: &mut [u32], k: usize, n: usize)
@@ -55,23 +58,17 @@ pub fn number(work: &mut [u32], o: usize, n: usize)
     }
 }
 
-// The welded numbers of `size` nodes go to the words from k on, those of the n nodes from a on welded, for a tolerance that is not 0; the n
-// words from s on are room.
-pub fn weld_in(
-    coords: &[f64],
-    tol: f64,
-    work: &mut [u32],
-    a: usize,
-    s: usize,
-    k: usize,
-    n: usize,
-    size: usize,
-)
-    requires { (a + n ≤ s) × (s + n ≤ k) × (k + size ≤ length work.old) × (size ≡ node_count coords.now) × (size < 2 ^ 32) × AllBelow size (region a n work.old) × (coordinates_off coords.now ≡ false) × (eq tol zero64 ≡ false) }
-    ensures { (region k size work.new ≡ welded coords.now tol size (region a n work.old)) × But a (k + size) work.old work.new }
-{
-    node_order::sort(coords, work, a, s, n);
-    clear(work, k, size);
-    sweeping::sweep(coords, tol, work, a, a + n, s, k, size);
-    settle(work, k, size);
+impl Space<'_> {
+    // The welded numbers of all nodes go to the words from k on, those of the n nodes from a on welded, for a tolerance that is not 0; the
+    // n words from s on are room.
+    pub fn weld_in(&self, work: &mut [u32], a: usize, s: usize, k: usize, n: usize)
+        requires { (a + n ≤ s) × (s + n ≤ k) × (k + node_count self.now.coords.now ≤ length work.old) × AllBelow (node_count self.now.coords.now) (region a n work.old) × (eq self.now.tolerance zero64 ≡ false) }
+        ensures { (region k (node_count self.now.coords.now) work.new ≡ welded self.now.coords.now self.now.tolerance (node_count self.now.coords.now) (region a n work.old)) × But a (k + node_count self.now.coords.now) work.old work.new }
+    {
+        let size = self.count();
+        self.sort(work, a, s, n);
+        clear(work, k, size);
+        self.sweep(work, a, a + n, s, k);
+        settle(work, k, size);
+    }
 }

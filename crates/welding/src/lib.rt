@@ -16,6 +16,7 @@ ghost use Rattle.welding.specs.Steps.{named_nodes, welded_over};
 
 use mesh::Model;
 use refusals::Refusal;
+use snap::Space;
 
 // Each node that the words name gets the mark 1, among the n words from k on.
 fn mark_named(words: &[u32], work: &mut [u32], k: usize, n: usize)
@@ -67,7 +68,11 @@ pub fn weld_named(coords: &[f64], words: &[u32], tol: f64, work: &mut [u32], n: 
         return;
     }
     let used = list_named(words, work, n);
-    snap::weld_in(coords, tol, work, 0, n, n + n, used, n);
+    let space = Space {
+        coords,
+        tolerance: tol,
+    };
+    space.weld_in(work, 0, n, n + n, used);
 }
 
 // Each of the words through the map of n nodes that stands in work from o on.

@@ -5,7 +5,8 @@ use native.Mathlib.Omega.{arith}
 use lib.ListN.{get_or}
 use lib.Seq.{drop-set-lt}
 use Rattle.snap.specs.Steps.{number_of}
-use Rattle.snap.proofs.Parts.{read_from, drop_later}
+use Rattle.snap.proofs.Parts.{read_from}
+use Rattle.sorting.proofs.RowLaws.{drop_later}
 use Rattle.snap.proofs.Marks.{settle_step}
 use Rattle.snap.proofs.settle.Goals as goal
 

@@ -25,6 +25,9 @@ returns-then-tol c =
 pub list_named-used-requires : goal.list_named-used-requires
 list_named-used-requires c = (c.requires.1, c.requires.2, c.requires.4)
 
+pub invariant_of-space : goal.invariant_of-space
+invariant_of-space c = record { sound = c.requires.3; few = omega (arith, c.requires.0, c.requires.2) }
+
 pub weld_in-requires : goal.weld_in-requires
 weld_in-requires c =
     let a = c.args in
@@ -32,11 +35,8 @@ weld_in-requires c =
     let z : eq a.tol zero64 ≡ false = rw (← zero_bits) c.if-tol.false in (
       omega (arith, L.ensures.0),
       omega (arith, L.ensures.0),
-      omega (arith, c.requires.1, L.auto.work),
-      c.requires.0,
-      c.requires.2,
-      subst (AllBelow a.n) (sym L.ensures.1) (below-distinct a.n (nodes_in a.words.now) c.requires.4),
-      c.requires.3,
+      omega (arith, c.requires.0, c.requires.1, L.auto.work),
+      rw (← c.requires.0) (subst (AllBelow a.n) (sym L.ensures.1) (below-distinct a.n (nodes_in a.words.now) c.requires.4)),
       z,
     )
 
@@ -44,4 +44,4 @@ pub returns : goal.returns
 returns c =
     let a = c.args in
     let L = c.list_named-used in
-    named_welded a.coords.now a.tol a.n L.result (named_nodes a.words.now) a.work.now _ _ c.requires.0 L.ensures.1 L.ensures.2 c.weld_in.ensures
+    named_welded a.coords.now a.tol a.n L.result (named_nodes a.words.now) a.work.now _ _ c.requires.0 L.ensures.1 L.ensures.2 (rw (← c.requires.0) at c.weld_in.ensures)
