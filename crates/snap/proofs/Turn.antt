@@ -6,7 +6,7 @@ use mathlib.Core.List.{List, [], ◌∷◌}
 use native.Mathlib.Numerals.{add-one}
 use native.Mathlib.Omega.{arith}
 use lib.Ieee.{Float}
-use lib.ListN.{length, get_or, set, take, length-set}
+use lib.ListN.{length, get_or, set, take, drop, length-set}
 use lib.Seq.{slice, slice-cons, length-slice, sets, length-sets, take-set-le, take-take, get_or-set_same}
 use Rattle.laws.specs.Lists.{elem}
 use Rattle.laws.specs.Merging.{region, AllBelow}
@@ -152,18 +152,27 @@ module _ {c : List Float} {t : Float} {w : List ℕ} {i e g k : ℕ} (L : Leadin
     run : slice g m x ≡ G
     run = rw (end_is, stored) group_run
 
-    -- what `least` asks, and that its answer is a node
-    pub least_asks : (g < m) × (m ≤ length x)
-    least_asks = (omega (arith, end_is), omega (arith, end_is, group_length, size_is))
+    -- lent out it is a part of the work
+    part : take (m - g) (drop g x) ≡ G
+    part =
+        let e : m - g ≡ length G = omega (arith, end_is) in
+        rw (e, stored) (region_same w g G (omega (arith, group_length)))
 
-    pub least_below : {n : ℕ} → n ≡ least (slice g m x) → n < size
-    least_below q = rw (q, run) least_node
+    pub end_within : m ≤ length x
+    end_within = omega (arith, end_is, group_length, size_is)
+
+    -- what `least` asks, and that its answer is a node
+    pub least_asks : 0 < length (take (m - g) (drop g x))
+    least_asks = rw part (omega arith)
+
+    pub least_below : {n : ℕ} → n ≡ least (take (m - g) (drop g x)) → n < size
+    least_below q = rw (q, part) least_node
 
     -- what `put` asks
     pub put_asks : (g ≤ m) × (m ≤ k) × (k + size ≤ length x) × AllBelow size (slice g m x)
     put_asks = (omega (arith, end_is), omega (arith, end_is, group_length), omega (arith, size_is), rw run group_nodes)
 
     -- what is left to be swept comes to the same once the group is marked
-    pub turned : {n : ℕ} {y : List ℕ} {r : Bool} → r ≡ marked k w (get_or w i 0) → r ≡ false → n ≡ least (slice g m x) → y ≡ put_all k (n + 1) (slice g m x) x
+    pub turned : {n : ℕ} {y : List ℕ} {r : Bool} → r ≡ marked k w (get_or w i 0) → r ≡ false → n ≡ least (take (m - g) (drop g x)) → y ≡ put_all k (n + 1) (slice g m x) x
         → (weld_from c t k size (i + 1) e y ≡ weld_from c t k size i e w) × But g (k + size) w y
-    turned o o' p q = rw (q, p, run, stored) (turn (sym o ∙ o'), turn_but)
+    turned o o' p q = rw (q, p, part, run, stored) (turn (sym o ∙ o'), turn_but)

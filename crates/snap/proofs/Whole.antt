@@ -2,16 +2,16 @@
 use Prim.Native.Nat.{ℕ, ◌+◌, ◌-◌, ◌≤◌, ◌<◌}
 use mathlib.Core.Path.{◌≡◌, sym, ap, ap₂, ◌∙◌, subst}
 use mathlib.Core.Bool.{Bool, true, false, not, cond}
-use mathlib.Core.List.{List}
+use mathlib.Core.List.{List, ◌++◌}
 use native.Mathlib.Omega.{arith}
 use lib.Dec.{eqb}
 use lib.Ieee.{Float, eq}
-use lib.ListN.{length, get_or, take, replicate, length-replicate, get_or-replicate}
+use lib.ListN.{length, get_or, take, drop, replicate, length-replicate, get_or-replicate}
 use lib.Seq.{slice, sets, length-sets, take-take, get_or-drop, get_or-take}
 use Rattle.laws.specs.Lists.{sort, up_from}
 use Rattle.laws.specs.Merging.{region, AllBelow}
 use Rattle.laws.proofs.ListLaws.{length-up_from}
-use Rattle.laws.proofs.Stores.{take_before, drop_after, region_before, region_same, length-region, slice-region, get_or_within}
+use Rattle.laws.proofs.Stores.{take_before, drop_after, region_before, region_same, length-region, slice-region, get_or_within, lent_sets}
 use Rattle.laws.proofs.Sorting.{length-sort, sort_rises}
 use Rattle.floats.specs.Floats.{zero64}
 use Rattle.snap.specs.Weld.{before_of, groups, spread, welded}
@@ -32,6 +32,23 @@ module _ (l xs : List ℕ) (a k size : ℕ) (d : length xs ≡ size) where
   -- all else stays
   run_but : a ≤ k → But a (k + size) l (sets l k xs)
   run_but h = (take_before a l k xs h, drop_after (k + size) l k xs (omega arith))
+
+-- m words lent out, which come back as a list of their number, or as the numbers of their marks
+module _ (l : List ℕ) (k m n : ℕ) (q : m ≡ n) (h : k + n ≤ length l) where
+  lent : take (k + m - k) (drop k l) ≡ region k n l
+  lent = let d : k + m - k ≡ n = omega arith in rw d
+
+  pub filled : (f : ℕ → List ℕ) → length (f n) ≡ n → {new : List ℕ} → new ≡ f (length (take (k + m - k) (drop k l))) → take k l ++ (new ++ drop (k + m - k) (drop k l)) ≡ sets l k (f n)
+  filled f d e =
+      let long : length (take (k + m - k) (drop k l)) ≡ n = rw lent (length-region k n l h) in
+      rw (e, long, q) (lent_sets n l (f n) k d h)
+
+  pub zeroed : {new : List ℕ} → new ≡ replicate (length (take (k + m - k) (drop k l))) 0 → take k l ++ (new ++ drop (k + m - k) (drop k l)) ≡ sets l k (replicate n 0)
+  zeroed = filled (λ i. replicate i 0) (length-replicate n 0)
+
+  pub numbered : {new : List ℕ} → new ≡ numbers 0 (take (k + m - k) (drop k l)) → take k l ++ (new ++ drop (k + m - k) (drop k l)) ≡ sets l k (numbers 0 (region k n l))
+  numbered e =
+      rw (e, lent, q) (lent_sets n l (numbers 0 (region k n l)) k (length_numbers 0 (region k n l) ∙ length-region k n l h) h)
 
 -- as before twice
 but_but : (a b t : ℕ) (l v w : List ℕ) → a ≤ b → But a t l v → But b t v w → But a t l w

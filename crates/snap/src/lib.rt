@@ -37,24 +37,24 @@ fn number_of(i: u32, w: u32) -> u32
     w - 1
 }
 
-// The marks of n nodes, from k on, become the numbers that they give.
-fn settle(work: &mut [u32], k: usize, n: usize)
-    requires { (k + n ≤ length work.old) × (n < 2 ^ 32) }
-    ensures { work.new ≡ sets work.old k (numbers 0 (region k n work.old)) }
+// Each mark becomes the number that it gives its node. By index: after an adapter of iter_mut a proof knows nothing of the elements.
+fn settle(marks: &mut [u32])
+    requires { length marks.old < 2 ^ 32 }
+    ensures { marks.new ≡ numbers 0 marks.old }
 {
-    for i in 0..n {
-        work[k + i] = number_of(i as u32, work[k + i]);
+    for i in 0..marks.len() {
+        marks[i] = number_of(i as u32, marks[i]);
     }
 }
 
-// The n words from o on are 0, 1, ..
+// The words are 0, 1, .. By index, as above.
 #[tactic(auto, using(crate::proofs::Marks::number_step))]
-pub fn number(work: &mut [u32], o: usize, n: usize)
-    requires { (o + n ≤ length work.old) × (n < 2 ^ 32) }
-    ensures { work.new ≡ sets work.old o (up_from 0 n) }
+pub fn number(part: &mut [u32])
+    requires { length part.old < 2 ^ 32 }
+    ensures { part.new ≡ up_from 0 (length part.old) }
 {
-    for i in 0..n {
-        work[o + i] = i as u32;
+    for i in 0..part.len() {
+        part[i] = i as u32;
     }
 }
 
@@ -67,8 +67,8 @@ impl Space<'_> {
     {
         let size = self.count();
         self.sort(work, a, s, n);
-        clear(work, k, size);
+        work[k..k + size].fill(0);
         self.sweep(work, a, a + n, s, k);
-        settle(work, k, size);
+        settle(&mut work[k..k + size]);
     }
 }

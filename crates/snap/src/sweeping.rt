@@ -19,16 +19,12 @@ fn taken(work: &[u32], k: usize, n: u32) -> bool
     work[k + n as usize] != 0
 }
 
-// The smallest of [g, e), which is not empty.
-fn least(work: &[u32], g: usize, e: usize) -> u32
-    requires { (g < e) × (e ≤ length work.now) }
-    ensures { result ≡ leastOf (slice g e work.now) }
+// The smallest of a group, which is not empty.
+fn least(group: &[u32]) -> u32
+    requires { 0 < length group.now }
+    ensures { result ≡ leastOf group.now }
 {
-    let mut m = work[g];
-    for j in g + 1..e {
-        m = m.min(work[j]);
-    }
-    m
+    group[1..].iter().fold(group[0], |m, n| m.min(*n))
 }
 
 // Each of the nodes in [g, e) of work gets the mark v, among the words from k on.
@@ -113,7 +109,7 @@ impl Space<'_> {
         }
         work[g] = p;
         let end = self.takes(work, i + 1, e, g, k);
-        let m = least(work, g, end);
+        let m = least(&work[g..end]);
         put(work, g, end, k, self.count(), m + 1);
     }
 

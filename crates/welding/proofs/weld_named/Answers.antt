@@ -1,16 +1,18 @@
 -- With tolerance 0 each node's own number; else the named nodes, listed and welded.
-use mathlib.Core.Path.{◌≡◌, sym, ap, ◌∙◌, subst}
+use mathlib.Core.Path.{◌≡◌, refl, sym, ap, ◌∙◌, subst}
 use mathlib.Core.Bool.{true, false}
 use Prim.Native.Nat.{ℕ, ◌+◌}
 use native.Mathlib.Omega.{arith}
 use lib.Ieee.{eq}
+use Rattle.laws.specs.Lists.{up_from}
 use Rattle.laws.specs.Merging.{AllBelow}
+use Rattle.laws.proofs.ListLaws.{length-up_from}
 use Rattle.laws.proofs.Members.{below-distinct}
 use Rattle.floats.specs.Floats.{zero64}
 use Rattle.floats.proofs.Constants.{zero_bits}
 use Rattle.mesh.specs.Rings.{nodes_in}
 use Rattle.snap.specs.Weld.{welded}
-use Rattle.snap.proofs.Whole.{unwelded}
+use Rattle.snap.proofs.Whole.{filled, unwelded}
 use Rattle.welding.specs.Steps.{named_nodes}
 use Rattle.welding.proofs.Naming.{named_welded}
 use Rattle.welding.proofs.weld_named.Goals as goal
@@ -19,7 +21,7 @@ pub returns-then-tol : goal.returns-then-tol
 returns-then-tol c =
     let a = c.args in
     let z : eq a.tol zero64 ≡ true = rw (← zero_bits) c.if-tol.true in
-    let u = unwelded a.coords.now a.tol (named_nodes a.words.now) a.work.now _ (a.n + a.n) a.n (omega (arith, c.requires.1)) c.number.ensures z in
+    let u = unwelded a.coords.now a.tol (named_nodes a.words.now) a.work.now _ (a.n + a.n) a.n (omega (arith, c.requires.1)) (filled a.work.now (a.n + a.n) a.n a.n refl (omega (arith, c.requires.1)) (up_from 0) (length-up_from 0 a.n) c.number.ensures) z in
     (u.0 ∙ ap (λ (k : ℕ). welded a.coords.now a.tol k (named_nodes a.words.now)) c.requires.0, u.1)
 
 pub list_named-used-requires : goal.list_named-used-requires
