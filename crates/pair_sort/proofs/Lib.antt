@@ -2,6 +2,4 @@
 pub mod PairLaws
 pub mod Once
 pub mod PairOrder
-pub mod Merging
 pub mod Turns
-pub mod Halves

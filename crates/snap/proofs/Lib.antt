@@ -2,8 +2,7 @@
 pub mod Order
 pub mod Squares
 pub mod Parts
-pub mod Merging
-pub mod Halves
+pub mod NodeRows
 pub mod Groups
 pub mod Between
 pub mod Marks

@@ -102,19 +102,12 @@ pub length_numbers : (i : ℕ) (l : List ℕ) → length (numbers i l) ≡ lengt
 length_numbers i [] = refl
 length_numbers i (w ∷ l) = ap suc (length_numbers (suc i) l)
 
--- a turn of settling: l is the list at entry, from k + i on still as it was
-pub settle_step : (v l : List ℕ) (k i n : ℕ) → i < n → k + n ≤ length l
-    → sets (set v (k + i) (number_of i (get_or l (k + i) 0))) (k + (i + 1)) (numbers (i + 1) (region (k + (i + 1)) (n - (i + 1)) l)) ≡ sets v (k + i) (numbers i (region (k + i) (n - i) l))
-settle_step v l k i n h b =
-    let e : n - i ≡ suc (n - (i + 1)) = omega arith in
-    let s : k + (i + 1) ≡ suc (k + i) = omega arith in
-    let d : drop (k + i) l ≡ get_or l (k + i) 0 ∷ drop (suc (k + i)) l = drop-cons l (k + i) 0 (omega arith) in
-    rw s (sym (ap (λ (r : List ℕ). sets v (k + i) (numbers i r)) (ap (λ (m : ℕ). take m (drop (k + i) l)) e ∙ ap (take (suc (n - (i + 1)))) d)
-    ∙ ap (λ (j : ℕ). sets (set v (k + i) (number_of i (get_or l (k + i) 0))) (suc (k + i)) (numbers j (take (n - (i + 1)) (drop (suc (k + i)) l)))) (sym (add-one i))))
+-- a turn of settling: l is the list at entry, from i on still as it was
+pub settle_step : (v l : List ℕ) (i : ℕ) → i < length l → sets (set v i (number_of i (get_or l i 0))) (i + 1) (numbers (i + 1) (drop (i + 1) l)) ≡ sets v i (numbers i (drop i l))
+settle_step v l i h = rw (add-one i) (sym (ap (λ (r : List ℕ). sets v i (numbers i r)) (drop-cons l i 0 h)))
 
 -- a turn of numbering
-pub number_step : (l : List ℕ) (k i n : ℕ) → i < n → sets (set l (k + i) i) (k + (i + 1)) (up_from (i + 1) (n - (i + 1))) ≡ sets l (k + i) (up_from i (n - i))
-number_step l k i n h =
+pub number_step : (l : List ℕ) (i n : ℕ) → i < n → sets (set l i i) (i + 1) (up_from (i + 1) (n - (i + 1))) ≡ sets l i (up_from i (n - i))
+number_step l i n h =
     let e : n - i ≡ suc (n - (i + 1)) = omega arith in
-    let s : k + (i + 1) ≡ suc (k + i) = omega arith in
-    rw (s, e, add-one i)
+    rw (e, add-one i)

@@ -13,7 +13,7 @@ use lib.Seq.{slice, sets, take-set-le, drop-set-lt}
 use Rattle.laws.specs.Merging.{AllBelow}
 use Rattle.geometry.specs.declared.Point.{Point}
 use Rattle.geometry.specs.Points.{point_at}
-use Rattle.geometry.specs.Coordinates.{node_count, coordinates_off}
+use Rattle.geometry.specs.Coordinates.{node_count}
 use Rattle.snap.specs.Weld.{takes, far_of, near_of}
 use Rattle.snap.specs.Steps.{marked, far_points, near_points, InOrder, PassedOver}
 use Rattle.snap.proofs.Parts.{in_slice, slice_to, nodes_rest, read_to, read_from}
@@ -127,15 +127,14 @@ module _ {c : List Float} {t : Float} {u : List ℕ} {i e g k : ℕ} {w : List �
 
       -- another is passed over: what `past` asks
       pub past_asks : {r s : Bool} → r ≡ far_points t p q → r ≡ false → s ≡ near_points t p q → s ≡ false
-          → get_or u g 0 < node_count c → AllBelow (node_count c) (slice i e u) → InOrder c i e u → coordinates_off c ≡ false
-          → (j < e) × (e ≤ length w) × (get_or u g 0 < node_count c) × AllBelow (node_count c) (slice j e w) × InOrder c j e w × (coordinates_off c ≡ false) × (far_of c t (get_or u g 0) (get_or w j 0) ≡ false) × (near_of c t (get_or u g 0) (get_or w j 0) ≡ false)
-      past_asks f f' n n' x ns o z = (
+          → get_or u g 0 < node_count c → AllBelow (node_count c) (slice i e u) → InOrder c i e u
+          → (j < e) × (e ≤ length w) × (get_or u g 0 < node_count c) × AllBelow (node_count c) (slice j e w) × InOrder c j e w × (far_of c t (get_or u g 0) (get_or w j 0) ≡ false) × (near_of c t (get_or u g 0) (get_or w j 0) ≡ false)
+      past_asks f f' n n' x ns o = (
         l,
         omega (arith, v.size),
         x,
         rw (slice_to (g + 1) j e w u v.front (omega arith)) (nodes_rest (node_count c) i j e u v.from ns),
         order_kept c (g + 1) i j e w u v.front (omega arith) v.from o,
-        z,
         far_is f f',
         near_is n n',
       )

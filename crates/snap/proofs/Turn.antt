@@ -6,13 +6,13 @@ use mathlib.Core.List.{List, [], ◌∷◌}
 use native.Mathlib.Numerals.{add-one}
 use native.Mathlib.Omega.{arith}
 use lib.Ieee.{Float}
-use lib.ListN.{length, get_or, set, take, length-set}
+use lib.ListN.{length, get_or, set, take, drop, length-set}
 use lib.Seq.{slice, slice-cons, length-slice, sets, length-sets, take-set-le, take-take, get_or-set_same}
 use Rattle.laws.specs.Lists.{elem}
 use Rattle.laws.specs.Merging.{region, AllBelow}
 use Rattle.laws.proofs.Stores.{take_before, drop_after, region_after, region_same, slice-region}
 use Rattle.snap.specs.Weld.{takes, groups, spread, give, least}
-use Rattle.geometry.specs.Coordinates.{node_count, coordinates_off}
+use Rattle.geometry.specs.Coordinates.{node_count}
 use Rattle.snap.specs.Steps.{But, marked, put_all, numbers, weld_from, InOrder}
 use Rattle.snap.proofs.Parts.{slice_to, nodes_rest}
 use Rattle.snap.proofs.Groups.{groups_ext, nodes_takes, length_takes, least_low}
@@ -27,15 +27,18 @@ group c t w i e k = get_or w i 0 ∷ takes c t (get_or w i 0) (marked k w) (slic
 abbrev after : List Float → Float → List ℕ → ℕ → ℕ → ℕ → ℕ → List ℕ
 after c t w i e g k = put_all k (least (group c t w i e k) + 1) (group c t w i e k) (sets w g (group c t w i e k))
 
--- the node at i is to lead: the nodes in [i, e) of w, room for a group from g on, marks of `size` nodes at k
-pub record Leading (c : List Float) (t : Float) (w : List ℕ) (i e g k size : ℕ) : Type 0 where
+-- the node at i is to lead: the nodes in [i, e) of w, room for a group from g on, marks of all nodes at k
+pub record Leading (c : List Float) (t : Float) (w : List ℕ) (i e g k : ℕ) : Type 0 where
   pub some : i < e
   pub before : e ≤ g
   pub room : g + (e - i) ≤ k
-  pub marks : k + size ≤ length w
-  pub nodes : AllBelow size (slice i e w)
+  pub marks : k + node_count c ≤ length w
+  pub nodes : AllBelow (node_count c) (slice i e w)
 
-module _ {c : List Float} {t : Float} {w : List ℕ} {i e g k size : ℕ} (L : Leading c t w i e g k size) where
+module _ {c : List Float} {t : Float} {w : List ℕ} {i e g k : ℕ} (L : Leading c t w i e g k) where
+  abbrev size : ℕ
+  size = node_count c
+
   abbrev G : List ℕ
   G = group c t w i e k
 
@@ -121,19 +124,18 @@ module _ {c : List Float} {t : Float} {w : List ℕ} {i e g k size : ℕ} (L : L
       ∙ sym (ap (λ (l : List ℕ). spread (groups c t (marked k w) l) m) next ∙ rw n)
 
   -- what `takes` asks, once the leader stands at g
-  pub takes_asks : size ≡ node_count c → InOrder c i e w → coordinates_off c ≡ false
-      → (i + 1 ≤ e) × (e ≤ g) × (g + 1 + (e - (i + 1)) ≤ k) × (k + node_count c ≤ length u) × (get_or u g 0 < node_count c) × AllBelow (node_count c) (slice (i + 1) e u) × InOrder c (i + 1) e u × (coordinates_off c ≡ false)
-  takes_asks q o z =
+  pub takes_asks : InOrder c i e w
+      → (i + 1 ≤ e) × (e ≤ g) × (g + 1 + (e - (i + 1)) ≤ k) × (k + node_count c ≤ length u) × (get_or u g 0 < node_count c) × AllBelow (node_count c) (slice (i + 1) e u) × InOrder c (i + 1) e u
+  takes_asks o =
       let d : i ≤ i + 1 = omega arith in
       let same = take-set-le g w g (get_or w i 0) (omega arith) in (
         omega arith,
         L.before,
         omega arith,
         omega (arith, length-set w g (get_or w i 0)),
-        rw (stands, ← q) leader_node,
-        rw (slice_to g (i + 1) e u w same L.before, ← q) (nodes_rest size i (i + 1) e w d L.nodes),
+        rw stands leader_node,
+        rw (slice_to g (i + 1) e u w same L.before) (nodes_rest size i (i + 1) e w d L.nodes),
         order_kept c g i (i + 1) e u w same L.before d o,
-        z,
       )
 
   -- m and x are what `takes` answers and leaves
@@ -150,18 +152,27 @@ module _ {c : List Float} {t : Float} {w : List ℕ} {i e g k size : ℕ} (L : L
     run : slice g m x ≡ G
     run = rw (end_is, stored) group_run
 
-    -- what `least` asks, and that its answer is a node
-    pub least_asks : (g < m) × (m ≤ length x)
-    least_asks = (omega (arith, end_is), omega (arith, end_is, group_length, size_is))
+    -- lent out it is a part of the work
+    part : take (m - g) (drop g x) ≡ G
+    part =
+        let e : m - g ≡ length G = omega (arith, end_is) in
+        rw (e, stored) (region_same w g G (omega (arith, group_length)))
 
-    pub least_below : {n : ℕ} → n ≡ least (slice g m x) → n < size
-    least_below q = rw (q, run) least_node
+    pub end_within : m ≤ length x
+    end_within = omega (arith, end_is, group_length, size_is)
+
+    -- what `least` asks, and that its answer is a node
+    pub least_asks : 0 < length (take (m - g) (drop g x))
+    least_asks = rw part (omega arith)
+
+    pub least_below : {n : ℕ} → n ≡ least (take (m - g) (drop g x)) → n < size
+    least_below q = rw (q, part) least_node
 
     -- what `put` asks
     pub put_asks : (g ≤ m) × (m ≤ k) × (k + size ≤ length x) × AllBelow size (slice g m x)
     put_asks = (omega (arith, end_is), omega (arith, end_is, group_length), omega (arith, size_is), rw run group_nodes)
 
     -- what is left to be swept comes to the same once the group is marked
-    pub turned : {n : ℕ} {y : List ℕ} {r : Bool} → r ≡ marked k w (get_or w i 0) → r ≡ false → n ≡ least (slice g m x) → y ≡ put_all k (n + 1) (slice g m x) x
+    pub turned : {n : ℕ} {y : List ℕ} {r : Bool} → r ≡ marked k w (get_or w i 0) → r ≡ false → n ≡ least (take (m - g) (drop g x)) → y ≡ put_all k (n + 1) (slice g m x) x
         → (weld_from c t k size (i + 1) e y ≡ weld_from c t k size i e w) × But g (k + size) w y
-    turned o o' p q = rw (q, p, run, stored) (turn (sym o ∙ o'), turn_but)
+    turned o o' p q = rw (q, p, part, run, stored) (turn (sym o ∙ o'), turn_but)

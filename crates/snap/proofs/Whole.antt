@@ -1,22 +1,23 @@
 -- From the sort, the cleared marks, the sweep and the settling to the welded numbers.
-use Prim.Native.Nat.{ℕ, ◌+◌, ◌-◌, ◌^◌, ◌≤◌, ◌<◌}
+use Prim.Native.Nat.{ℕ, ◌+◌, ◌-◌, ◌≤◌, ◌<◌}
 use mathlib.Core.Path.{◌≡◌, sym, ap, ap₂, ◌∙◌, subst}
 use mathlib.Core.Bool.{Bool, true, false, not, cond}
-use mathlib.Core.List.{List}
+use mathlib.Core.List.{List, ◌++◌}
 use native.Mathlib.Omega.{arith}
 use lib.Dec.{eqb}
 use lib.Ieee.{Float, eq}
-use lib.ListN.{length, get_or, take, replicate, length-replicate, get_or-replicate}
+use lib.ListN.{length, get_or, take, drop, replicate, length-replicate, get_or-replicate}
 use lib.Seq.{slice, sets, length-sets, take-take, get_or-drop, get_or-take}
 use Rattle.laws.specs.Lists.{sort, up_from}
 use Rattle.laws.specs.Merging.{region, AllBelow}
 use Rattle.laws.proofs.ListLaws.{length-up_from}
-use Rattle.laws.proofs.Stores.{take_before, drop_after, region_before, region_same, length-region, slice-region, get_or_within}
+use Rattle.laws.proofs.Stores.{take_before, drop_after, region_before, region_same, length-region, slice-region, get_or_within, lent_sets}
 use Rattle.laws.proofs.Sorting.{length-sort, sort_rises}
 use Rattle.floats.specs.Floats.{zero64}
 use Rattle.snap.specs.Weld.{before_of, groups, spread, welded}
 use Rattle.geometry.specs.Coordinates.{node_count, coordinates_off}
-use Rattle.snap.specs.Steps.{But, both, InOrder, marked, numbers, weld_from}
+use Rattle.sorting.specs.Rows.{both}
+use Rattle.snap.specs.Steps.{But, InOrder, marked, numbers, weld_from}
 use Rattle.snap.proofs.Order.{before_total}
 use Rattle.laws.proofs.Bounds.{below-sort}
 use Rattle.snap.proofs.Groups.{groups_ext, length_spread}
@@ -32,18 +33,38 @@ module _ (l xs : List ℕ) (a k size : ℕ) (d : length xs ≡ size) where
   run_but : a ≤ k → But a (k + size) l (sets l k xs)
   run_but h = (take_before a l k xs h, drop_after (k + size) l k xs (omega arith))
 
+-- m words lent out, which come back as a list of their number, or as the numbers of their marks
+module _ (l : List ℕ) (k m n : ℕ) (q : m ≡ n) (h : k + n ≤ length l) where
+  lent : take (k + m - k) (drop k l) ≡ region k n l
+  lent = let d : k + m - k ≡ n = omega arith in rw d
+
+  pub filled : (f : ℕ → List ℕ) → length (f n) ≡ n → {new : List ℕ} → new ≡ f (length (take (k + m - k) (drop k l))) → take k l ++ (new ++ drop (k + m - k) (drop k l)) ≡ sets l k (f n)
+  filled f d e =
+      let long : length (take (k + m - k) (drop k l)) ≡ n = rw lent (length-region k n l h) in
+      rw (e, long, q) (lent_sets n l (f n) k d h)
+
+  pub zeroed : {new : List ℕ} → new ≡ replicate (length (take (k + m - k) (drop k l))) 0 → take k l ++ (new ++ drop (k + m - k) (drop k l)) ≡ sets l k (replicate n 0)
+  zeroed = filled (λ i. replicate i 0) (length-replicate n 0)
+
+  pub numbered : {new : List ℕ} → new ≡ numbers 0 (take (k + m - k) (drop k l)) → take k l ++ (new ++ drop (k + m - k) (drop k l)) ≡ sets l k (numbers 0 (region k n l))
+  numbered e =
+      rw (e, lent, q) (lent_sets n l (numbers 0 (region k n l)) k (length_numbers 0 (region k n l) ∙ length-region k n l h) h)
+
 -- as before twice
 but_but : (a b t : ℕ) (l v w : List ℕ) → a ≤ b → But a t l v → But b t v w → But a t l w
 but_but a b t l v w h p q = (sym (take-take a b w h) ∙ ap (take a) q.0 ∙ take-take a b v h ∙ p.0, q.1 ∙ p.1)
 
--- n nodes at a, room for them at s, and marks of `size` nodes at k
-pub record Lent (c : List Float) (t : Float) (l : List ℕ) (a s k n size : ℕ) : Type 0 where
+-- n nodes at a, room for them at s, and marks of all nodes at k
+pub record Lent (c : List Float) (t : Float) (l : List ℕ) (a s k n : ℕ) : Type 0 where
   pub first : a + n ≤ s
   pub second : s + n ≤ k
-  pub marks : k + size ≤ length l
-  pub nodes : AllBelow size (region a n l)
+  pub marks : k + node_count c ≤ length l
+  pub nodes : AllBelow (node_count c) (region a n l)
 
-module _ {c : List Float} {t : Float} {l : List ℕ} {a s k n size : ℕ} (L : Lent c t l a s k n size) where
+module _ {c : List Float} {t : Float} {l : List ℕ} {a s k n : ℕ} (L : Lent c t l a s k n) where
+  abbrev size : ℕ
+  size = node_count c
+
   abbrev S : List ℕ
   S = sort (before_of c) (region a n l)
 
@@ -139,10 +160,8 @@ module _ {c : List Float} {t : Float} {l : List ℕ} {a s k n size : ℕ} (L : L
     v_length = ap length v_is ∙ length-sets l₁ k (replicate size 0) ∙ l₁_length
 
     -- what the sweep asks
-    pub sweep_asks : size ≡ node_count c → size < 2 ^ 32 → coordinates_off c ≡ false
-        → (a ≤ a + n) × (a + n ≤ s) × (s + (a + n - a) ≤ k) × (k + size ≤ length v) × (size ≡ node_count c) × (size < 2 ^ 32) × AllBelow size (slice a (a + n) v) × InOrder c a (a + n) v × (coordinates_off c ≡ false)
-    sweep_asks x y z =
-        (omega arith, L.first, omega (arith, L.second), omega (arith, L.marks, v_length), x, y, rw v_is sorted_nodes, rw v_is (sorted_order z), z)
+    pub sweep_asks : coordinates_off c ≡ false → (a ≤ a + n) × (a + n ≤ s) × (s + (a + n - a) ≤ k) × (k + size ≤ length v) × AllBelow size (slice a (a + n) v) × InOrder c a (a + n) v
+    sweep_asks z = (omega arith, L.first, omega (arith, L.second), omega (arith, L.marks, v_length), rw v_is sorted_nodes, rw v_is (sorted_order z))
 
     -- w is v swept, x is w settled: the marks are the welded numbers
     pub all_settled : (w : List ℕ) {x : List ℕ} → length w ≡ length v → (numbers 0 (region k size w) ≡ weld_from c t k size a (a + n) v) × But s (k + size) v w

@@ -1,6 +1,5 @@
 -- For internal contracts: node numbers in regions of lent work, and what each step leaves there.
 use Rattle.std.specs.Prelude.{ℕ, suc, ◌+◌, ◌-◌, ◌≤◌, ◌<◌, ◌≡◌, ◌⊎◌, Bool, true, false, not, cond, List, [], ◌∷◌, map, eqb, get_or, take, drop, Float}
-use Rattle.std.proofs.lemmas.List.Edits.{sets}
 use Rattle.std.proofs.Math.Seq.{slice}
 use Rattle.std.specs.Float.{binary64}
 use Rattle.std.specs.Float.Ieee.{sub, mul, lt, le}
@@ -12,10 +11,6 @@ use Rattle.snap.specs.Weld.{before_of, far_of, near_of, groups, spread, give}
 -- v is w but for the words in [f, t)
 abbrev pub But : ℕ → ℕ → List ℕ → List ℕ → Type 0
 But f t w v = (take f v ≡ take f w) × (drop t v ≡ drop t w)
-
--- l with xs from a on, and from s on
-abbrev pub both : List ℕ → ℕ → ℕ → List ℕ → List ℕ
-both l a s xs = sets (sets l a xs) s xs
 
 -- ---- a leader's tests, on the points a and b of the leader and a node
 

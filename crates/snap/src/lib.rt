@@ -3,6 +3,7 @@
 
 mod node_order;
 mod passing;
+mod space;
 mod sweeping;
 
 ghost use Rattle.std.specs.Prelude.{◌≡◌, false, ◌+◌, ◌^◌, ◌≤◌, ◌<◌, length, replicate};
@@ -11,9 +12,11 @@ ghost use Rattle.std.specs.Float.Ieee.{eq};
 ghost use Rattle.laws.specs.Lists.{up_from};
 ghost use Rattle.laws.specs.Merging.{region, AllBelow};
 ghost use Rattle.floats.specs.Floats.{zero64};
-ghost use Rattle.geometry.specs.Coordinates.{node_count, coordinates_off};
+ghost use Rattle.geometry.specs.Coordinates.{node_count};
 ghost use Rattle.snap.specs.Weld.{welded};
 ghost use Rattle.snap.specs.Steps.{But, number_of, numbers};
+
+pub use space::Space;
 
 // n words from k on are 0.
 pub fn clear(work: &mut [u32], k: usize, n: usize)
@@ -34,44 +37,38 @@ fn number_of(i: u32, w: u32) -> u32
     w - 1
 }
 
-// The marks of n nodes, from k on, become the numbers that they give.
-fn settle(work: &mut [u32], k: usize, n: usize)
-    requires { (k + n ≤ length work.old) × (n < 2 ^ 32) }
-    ensures { work.new ≡ sets work.old k (numbers 0 (region k n work.old)) }
+// Each mark becomes the number that it gives its node. By index: after an adapter of iter_mut a proof knows nothing of the elements.
+fn settle(marks: &mut [u32])
+    requires { length marks.old < 2 ^ 32 }
+    ensures { marks.new ≡ numbers 0 marks.old }
 {
-    for i in 0..n {
-        work[k + i] = number_of(i as u32, work[k + i]);
+    for i in 0..marks.len() {
+        marks[i] = number_of(i as u32, marks[i]);
     }
 }
 
-// The n words from o on are 0, 1, ..
+// The words are 0, 1, .. By index, as above.
 #[tactic(auto, using(crate::proofs::Marks::number_step))]
-pub fn number(work: &mut [u32], o: usize, n: usize)
-    requires { (o + n ≤ length work.old) × (n < 2 ^ 32) }
-    ensures { work.new ≡ sets work.old o (up_from 0 n) }
+pub fn number(part: &mut [u32])
+    requires { length part.old < 2 ^ 32 }
+    ensures { part.new ≡ up_from 0 (length part.old) }
 {
-    for i in 0..n {
-        work[o + i] = i as u32;
+    for i in 0..part.len() {
+        part[i] = i as u32;
     }
 }
 
-// The welded numbers of `size` nodes go to the words from k on, those of the n nodes from a on welded, for a tolerance that is not 0; the n
-// words from s on are room.
-pub fn weld_in(
-    coords: &[f64],
-    tol: f64,
-    work: &mut [u32],
-    a: usize,
-    s: usize,
-    k: usize,
-    n: usize,
-    size: usize,
-)
-    requires { (a + n ≤ s) × (s + n ≤ k) × (k + size ≤ length work.old) × (size ≡ node_count coords.now) × (size < 2 ^ 32) × AllBelow size (region a n work.old) × (coordinates_off coords.now ≡ false) × (eq tol zero64 ≡ false) }
-    ensures { (region k size work.new ≡ welded coords.now tol size (region a n work.old)) × But a (k + size) work.old work.new }
-{
-    node_order::sort(coords, work, a, s, n);
-    clear(work, k, size);
-    sweeping::sweep(coords, tol, work, a, a + n, s, k, size);
-    settle(work, k, size);
+impl Space<'_> {
+    // The welded numbers of all nodes go to the words from k on, those of the n nodes from a on welded, for a tolerance that is not 0; the
+    // n words from s on are room.
+    pub fn weld_in(&self, work: &mut [u32], a: usize, s: usize, k: usize, n: usize)
+        requires { (a + n ≤ s) × (s + n ≤ k) × (k + node_count self.now.coords.now ≤ length work.old) × AllBelow (node_count self.now.coords.now) (region a n work.old) × (eq self.now.tolerance zero64 ≡ false) }
+        ensures { (region k (node_count self.now.coords.now) work.new ≡ welded self.now.coords.now self.now.tolerance (node_count self.now.coords.now) (region a n work.old)) × But a (k + node_count self.now.coords.now) work.old work.new }
+    {
+        let size = self.count();
+        self.sort(work, a, s, n);
+        work[k..k + size].fill(0);
+        self.sweep(work, a, a + n, s, k);
+        settle(&mut work[k..k + size]);
+    }
 }

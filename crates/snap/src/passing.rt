@@ -2,10 +2,10 @@
 ghost use Rattle.std.specs.Prelude.{ℕ, ◌≡◌, false, ◌≤◌, ◌<◌, length, get_or};
 ghost use Rattle.std.proofs.Math.Seq.{slice};
 ghost use Rattle.laws.specs.Merging.{AllBelow};
-ghost use Rattle.geometry.specs.Coordinates.{node_count, coordinates_off};
-ghost use Rattle.snap.specs.Weld.{far_of, near_of};
-ghost use Rattle.snap.specs.Steps.{apart_by, outside_of, passed_of, InOrder, PassedOver};
+ghost use Rattle.geometry.specs.Coordinates.{node_count};
+ghost use Rattle.snap.specs.Steps.{apart_by, outside_of, passed_of};
 
+use crate::Space;
 use geometry::Point;
 
 // A place that was reached, and the last step's size.
@@ -104,7 +104,7 @@ impl Walk<'_> {
         Stride { last, step }
     }
 
-    // Steps on from `last`, each half the one before.
+    // Steps on from the place that was reached, the first of half the last step there, each other of half the one before.
     fn land(&self, from: Stride) -> usize
         requires { (self.now.from ≤ from.last) × (from.last < self.now.end) × ReachedBy self.now from.last }
         ensures { (self.now.from ≤ result) × (result < self.now.end) × ReachedBy self.now result }
@@ -120,20 +120,25 @@ impl Walk<'_> {
     }
 }
 
-// The node at j is passed over by the leader; the place behind it and others that are passed over too.
-pub fn past(coords: &[f64], tol: f64, work: &[u32], leader: u32, j: usize, e: usize) -> usize
-    requires { (j < e) × (e ≤ length work.now) × (leader < node_count coords.now) × AllBelow (node_count coords.now) (slice j e work.now) × InOrder coords.now j e work.now × (coordinates_off coords.now ≡ false) × (far_of coords.now tol leader (get_or work.now j 0) ≡ false) × (near_of coords.now tol leader (get_or work.now j 0) ≡ false) }
-    ensures { (j < result) × (result ≤ e) × PassedOver coords.now tol leader j result work.now }
-{
-    let walk = Walk {
-        coords,
-        work,
-        limit: tol * tol,
-        a: geometry::point3(coords, leader),
-        b: geometry::point3(coords, work[j]),
-        from: j,
-        end: e,
-    };
-    let reached = walk.leap();
-    walk.land(reached) + 1
+impl Space<'_> {
+    ghost use Rattle.snap.specs.Weld.{far_of, near_of};
+    ghost use Rattle.snap.specs.Steps.{InOrder, PassedOver};
+
+    // The node at j is passed over by the leader; the place behind it and others that are passed over too.
+    pub fn past(&self, work: &[u32], leader: u32, j: usize, e: usize) -> usize
+        requires { (j < e) × (e ≤ length work.now) × (leader < node_count self.now.coords.now) × AllBelow (node_count self.now.coords.now) (slice j e work.now) × InOrder self.now.coords.now j e work.now × (far_of self.now.coords.now self.now.tolerance leader (get_or work.now j 0) ≡ false) × (near_of self.now.coords.now self.now.tolerance leader (get_or work.now j 0) ≡ false) }
+        ensures { (j < result) × (result ≤ e) × PassedOver self.now.coords.now self.now.tolerance leader j result work.now }
+    {
+        let walk = Walk {
+            coords: self.coords,
+            work,
+            limit: self.tolerance * self.tolerance,
+            a: geometry::point3(self.coords, leader),
+            b: geometry::point3(self.coords, work[j]),
+            from: j,
+            end: e,
+        };
+        let reached = walk.leap();
+        walk.land(reached) + 1
+    }
 }

@@ -16,6 +16,7 @@ ghost use Rattle.welding.specs.Steps.{named_nodes, welded_over};
 
 use mesh::Model;
 use refusals::Refusal;
+use snap::Space;
 
 // Each node that the words name gets the mark 1, among the n words from k on.
 fn mark_named(words: &[u32], work: &mut [u32], k: usize, n: usize)
@@ -52,7 +53,7 @@ fn list_named(words: &[u32], work: &mut [u32], n: usize) -> usize
     requires { (3 * n ≤ length work.old) × (n < 2 ^ 32) × AllBelow n (nodes_in words.now) }
     ensures { (result ≤ n) × (region 0 result work.new ≡ named_nodes words.now) × But 0 (n + n + n) work.old work.new }
 {
-    snap::clear(work, n + n, n);
+    work[n + n..n + n + n].fill(0);
     mark_named(words, work, n + n, n);
     list_marked(work, n + n, n)
 }
@@ -63,11 +64,15 @@ pub fn weld_named(coords: &[f64], words: &[u32], tol: f64, work: &mut [u32], n: 
     ensures { (region (n + n) n work.new ≡ welded_over coords.now tol words.now) × But 0 (n + n + n) work.old work.new }
 {
     if tol == 0.0 {
-        snap::number(work, n + n, n);
+        snap::number(&mut work[n + n..n + n + n]);
         return;
     }
     let used = list_named(words, work, n);
-    snap::weld_in(coords, tol, work, 0, n, n + n, used, n);
+    let space = Space {
+        coords,
+        tolerance: tol,
+    };
+    space.weld_in(work, 0, n, n + n, used);
 }
 
 // Each of the words through the map of n nodes that stands in work from o on.
@@ -95,6 +100,6 @@ pub fn weld(model: &Model, map: &mut [u32], scratch: &mut [u32]) -> Result<(), R
     }
     weld_named(model.coords, model.words, model.tolerance, scratch, n);
     map[..n].copy_from_slice(&scratch[n + n..n + n + n]);
-    snap::clear(scratch, 0, 3 * n);
+    scratch[..3 * n].fill(0);
     Ok(())
 }

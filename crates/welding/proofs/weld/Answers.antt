@@ -3,11 +3,12 @@ use Prim.Native.Nat.{ℕ, ◌+◌, ◌-◌, ◌*◌, ◌≤◌, ◌<◌}
 use mathlib.Core.Path.{◌≡◌, sym, ap, ◌∙◌, subst}
 use mathlib.Core.List.{List, ◌++◌}
 use native.Mathlib.Omega.{arith}
-use lib.ListN.{length, take, drop, replicate}
-use lib.Seq.{sets}
+use lib.ListN.{length, take, drop, replicate, length-replicate}
+use lib.Seq.{sets, length-take-le}
 use Rattle.std.proofs.lemmas.Result.{err_from_is_err_and}
 use Rattle.laws.specs.Limits.{node_limit}
 use Rattle.laws.specs.Merging.{AllBelow, region}
+use Rattle.laws.proofs.Stores.{sets_front}
 use Rattle.snap.specs.Steps.{But}
 use Rattle.refusals.specs.declared.Refusal.TheVariants.{Room}
 use Rattle.refusals.proofs.Told.{number-positive, told_ok, told_err}
@@ -23,6 +24,12 @@ use Rattle.welding.proofs.weld.Goals as goal
 -- the words from 2n to 3n
 third : (w : List ℕ) (n : ℕ) → take (n + n + n - (n + n)) (drop (n + n) w) ≡ region (n + n) n w
 third w n = let e : n + n + n - (n + n) ≡ n = omega arith in ap (λ (k : ℕ). take k (drop (n + n) w)) e
+
+-- words in front that come back as zeros
+front_zero : (w : List ℕ) (m : ℕ) {new : List ℕ} → m ≤ length w → new ≡ replicate (length (take m w)) 0 → new ++ drop m w ≡ sets w 0 (replicate m 0)
+front_zero w m h e =
+    let long : length {A = ℕ} (replicate m 0) ≡ m = length-replicate m 0 in
+    rw (e, length-take-le m w h) (sym (sets_front w (replicate m 0) (omega arith) ∙ ap (λ (k : ℕ). replicate m 0 ++ drop k w) long))
 
 pub returns-in_err-judge_mesh : goal.returns-in_err-judge_mesh
 returns-in_err-judge_mesh c =
@@ -67,4 +74,5 @@ returns c =
     (subst (λ (k : ℕ). (region (k + k) k W.new.work ≡ welded_over m.coords m.tolerance m.words) × But 0 (k + k + k) c.args.scratch.now W.new.work) n W.ensures)
     (ap (λ (l : List ℕ). l ++ drop c.node_count-n.result c.args.map.now) (c.copy_from_slice.ensures.after ∙ third W.new.work c.node_count-n.result)
     ∙ ap (λ (k : ℕ). region (k + k) k W.new.work ++ drop k c.args.map.now) n)
-    (subst (λ (k : ℕ). c.clear.new.work ≡ sets W.new.work 0 (replicate (3 * k) 0)) n c.clear.ensures)
+    (subst (λ (k : ℕ). c.fill.new.self ++ drop (3 * c.node_count-n.result) W.new.work ≡ sets W.new.work 0 (replicate (3 * k) 0)) n
+    (front_zero W.new.work (3 * c.node_count-n.result) (omega arith) (c.fill.ensures.after (λ y e. e))))

@@ -1,0 +1,2 @@
+-- Rows of words, for contracts of the sort by an order.
+pub mod Rows
