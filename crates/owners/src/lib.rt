@@ -34,6 +34,12 @@ fn same_ring(key: &[u32], ring: &[u32]) -> bool
     if key.len() != ring.len() {
         return false;
     }
+    // most rings end here, unsorted
+    if let Some(last) = ring.last() {
+        if !key.contains(last) {
+            return false;
+        }
+    }
     let mut room = [0; 64];
     key == sorted(ring, &mut room)
 }
