@@ -13,7 +13,7 @@ fn answer(test: &[u8], n: usize, k: usize) -> Result<Area, Refusal>
     let mut nodes = [0u32; 64];
     test_support::read(&test[16..], &mut coords[..3 * n]);
     test_support::read(&test[16 + 24 * n..], &mut nodes[..k]);
-    area::area_test(&coords[0..3 * n], &nodes[0..k], floats::le_f64(test, 8))
+    area::area_test(&coords[0..3 * n], &nodes[0..k], floats::get(test, 8))
 }
 
 // Our number of an answer; 5 where the test is refused.

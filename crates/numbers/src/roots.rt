@@ -15,8 +15,9 @@ struct Tally {
 fn agrees(s: &[u8], at: usize) -> bool
     requires { at + 16 ≤ length s.now }
 {
-    let got = floats::to_bits(floats::sqrt(floats::le_f64(s, at)));
-    got == floats::le_u64(s, at + 8)
+    let got = floats::to_bits(floats::sqrt(floats::get(s, at)));
+    let wanted: u64 = floats::get(s, at + 8);
+    got == wanted
 }
 
 // All pairs of the list; bytes that make no pair are left out.

@@ -9,7 +9,8 @@ fn same(s: &[u8], at: usize, map: &[u32], n: usize) -> bool
     requires { (at + 4 * n ≤ length s.now) × (n ≤ length map.now) }
 {
     for i in 0..n {
-        if map[i] as u64 != floats::le_four(s, at + 4 * i) {
+        let wanted: u32 = floats::get(s, at + 4 * i);
+        if map[i] != wanted {
             return false;
         }
     }
@@ -33,7 +34,7 @@ fn welds_so(set: &[u8], n: usize, k: usize) -> bool
         kinds: &kinds,
         ends: &ends,
         words: &words[0..k],
-        tolerance: floats::le_f64(set, 8),
+        tolerance: floats::get(set, 8),
         checks: Checks(0),
         cap: 0,
     };

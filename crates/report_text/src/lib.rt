@@ -98,10 +98,10 @@ fn put_lines(out: &mut [u8], findings: &[u8], kept: usize) -> usize
     requires { (64 * kept ≤ length findings.now) × (128 * kept ≤ length out.old) }
     ensures { Stored out.old 0 (each line_of (fields_kept findings.now kept)) out.new result × (result ≤ 128 * kept) }
 {
+    let (records, _) = findings.as_chunks::<64>();
     let mut p = 0;
-    for i in 0..kept {
-        let f = records::fields_at(findings, 64 * i);
-        p = put_line(out, p, f);
+    for bytes in &records[..kept] {
+        p = put_line(out, p, records::fields_of(bytes));
     }
     p
 }
