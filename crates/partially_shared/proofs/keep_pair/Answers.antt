@@ -11,9 +11,9 @@ pub returns : goal.returns
 returns c tol =
     let a = c.args in
     let w = a.work.now in
-    let m = get_or w (a.l.marks + a.b) 0 in
-    let o = get_or w (a.l.others + a.b) 0 in
+    let m = get_or w (a.cx.now.layout.marks + a.b) 0 in
+    let o = get_or w (a.cx.now.layout.others + a.b) 0 in
     let s = c.shared_of-s.ensures in
-    c.keep.ensures (plain_rules a.coords.now tol) (told_by a.l (input a.l.at w) a.c a.b m o)
-    (told_fields a.l w a.c a.b m o _ c.requires.searching.below s.count_value.0)
-    (told_centre a.l w a.coords.now tol a.c a.b m o _ c.requires.searching.below s.centre_value)
+    c.keep.ensures (plain_rules a.cx.now.coords.now tol) (told_by a.cx.now.layout (input a.cx.now.layout.at w) a.c a.b m o)
+    (told_fields a.cx.now.layout w a.c a.b m o _ c.requires.searching.below s.count_value.0)
+    (told_centre a.cx.now.layout w a.cx.now.coords.now tol a.c a.b m o _ c.requires.searching.below s.centre_value)
