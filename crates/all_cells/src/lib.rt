@@ -13,6 +13,7 @@ ghost use Rattle.layout.specs.ByCell.{plain_rules, bow_cell, over_cell, partly_c
 ghost use Rattle.layout.specs.Kept.{KeptAny};
 ghost use Rattle.all_cells.specs.Cells.{CellsIn, repeat_in, KeptEver};
 
+use index::Places;
 use layout::{Context, Tables};
 use mesh::Model;
 use records::{Kind, Record, Sink};
@@ -61,7 +62,7 @@ pub fn keep_bows(t: &Tables, sink: &mut Sink<'_>)
 }
 
 // 2, overfull faces.
-pub fn keep_overs(cx: &Context, work: &[u32], by: index::Places, sink: &mut Sink<'_>)
+pub fn keep_overs(cx: &Context, work: &[u32], by: Places, sink: &mut Sink<'_>)
     requires standing { Standing cx.now.layout work.now }
     requires keyed { Keyed cx.now.layout.at by (base cx.now.layout.at work.now) }
     requires few { sink.old.count ≤ 2 ^ 50 }
@@ -77,7 +78,7 @@ pub fn keep_overs(cx: &Context, work: &[u32], by: index::Places, sink: &mut Sink
 pub fn keep_pairs(
     cx: &Context,
     work: &mut [u32],
-    by: index::Places,
+    by: Places,
     way: Way,
     sink: &mut Sink<'_>,
 ) -> Tally

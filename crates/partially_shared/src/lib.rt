@@ -15,6 +15,7 @@ ghost use Rattle.partially_shared.specs.Listing.{Listed, Rising};
 ghost use Rattle.partially_shared.specs.Hits.{Searching, told_by, mark_tells, MarkFits, MarksFit, Cleared};
 ghost use Rattle.pair_sort.specs.Pairs.{pairs_at};
 
+use index::{Index, Places};
 use layout::Context;
 use noting::note_cell;
 use records::{Kind, Record, Sink};
@@ -47,11 +48,7 @@ fn keep_pair(cx: &Context, work: &[u32], c: usize, b: usize, sink: &mut Sink<'_>
     let l = &cx.layout;
     let f = work[l.marks + b] as usize - 1;
     let g = work[l.others + b] as usize;
-    let ix = index::Index {
-        base: &work[..l.at.found],
-        at: l.at,
-    };
-    let s = common_nodes::shared_of(cx.coords, &ix, f, g);
+    let s = common_nodes::shared_of(cx.coords, &Index::new(work, l.at), f, g);
     let r = Record {
         kind: Kind::PartlyShared as u8,
         first: c as u32,
@@ -138,7 +135,7 @@ fn by_list(r: Range) -> Option<usize>
 pub fn keep_partly(
     cx: &Context,
     work: &mut [u32],
-    by: index::Places,
+    by: Places,
     c: usize,
     way: Way,
     tally: seek::Tally,

@@ -12,6 +12,7 @@ ghost use Rattle.partially_shared.specs.Listing.{list_count, list_with};
 ghost use Rattle.partially_shared.specs.Hits.{passing, face_hits, cell_hits, Marked, MarkedMore, Searching, Beside};
 
 use crate::{Noted, Range};
+use index::{Index, Places};
 use layout::{Context, Layout, Tables};
 use seek::Way;
 
@@ -56,11 +57,7 @@ fn note(cx: &Context, work: &mut [u32], f: usize, g: usize, r: Range) -> Range
     if work[m] != 0 {
         return r;
     }
-    let ix = index::Index {
-        base: &work[..l.at.found],
-        at: l.at,
-    };
-    if !common_nodes::spans(cx.coords, cx.tolerance, &ix, f, g) {
+    if !common_nodes::spans(cx.coords, cx.tolerance, &Index::new(work, l.at), f, g) {
         return r;
     }
     mark(work, l, b, f, g);
@@ -92,7 +89,7 @@ fn note_found(cx: &Context, work: &mut [u32], f: usize, n: usize, r: Range) -> R
 fn note_face(
     cx: &Context,
     work: &mut [u32],
-    by: index::Places,
+    by: Places,
     f: usize,
     end: usize,
     way: Way,
@@ -117,7 +114,7 @@ fn note_face(
 pub fn note_cell(
     cx: &Context,
     work: &mut [u32],
-    by: index::Places,
+    by: Places,
     c: usize,
     way: Way,
     tally: seek::Tally,

@@ -4,7 +4,11 @@ use mathlib.Core.List.{List, [], ◌∷◌, ◌++◌}
 use mathlib.Core.Path.{◌≡◌, sym, ap, ◌∙◌, subst}
 use native.Mathlib.Omega.{arith}
 use lib.ListN.{get_or}
-use Rattle.index.specs.Faces.{input}
+use Rattle.geometry.specs.Points.{points_of}
+use Rattle.area.specs.AreaTest.{area_of, is_spans}
+use Rattle.index.specs.Faces.{input, nodes_of}
+use Rattle.index.proofs.Read.{of_index}
+use Rattle.seek.specs.Candidates.{common}
 use Rattle.layout.specs.ByCell.{plain_rules}
 use Rattle.partially_shared.specs.declared.Range.{Range}
 use Rattle.partially_shared.specs.Listing.{list_with}
@@ -32,7 +36,8 @@ returns-then-not-spans c =
     let t = input a.cx.now.layout.at w in
     let R = plain_rules a.cx.now.coords.now a.cx.now.tolerance in
     let e = c.cell_of-b.ensures in
-    let no = sym (spans_is a.cx.now.coords.now a.cx.now.tolerance a.cx.now.layout w a.f a.g c.requires.searching.below) ∙ sym c.spans.ensures ∙ c.if-not-spans.true in
+    let ok = of_index c.new.result (λ q b. c.spans.result ≡ is_spans (area_of a.cx.now.tolerance (points_of a.cx.now.coords.now (common (nodes_of q (input q b) a.f) (nodes_of q (input q b) a.g))))) c.new.ensures c.spans.ensures in
+    let no = sym (spans_is a.cx.now.coords.now a.cx.now.tolerance a.cx.now.layout w a.f a.g c.requires.searching.below) ∙ sym ok ∙ c.if-not-spans.true in
     record { marked_more = λ hits p. marked_out R a.cx.now.layout t a.f a.g hits w a.r p no; beside = (beside_self a.cx.now.layout.marks a.cx.now.layout w, c.requires.f_lt_faces.2) }
 
 pub returns : goal.returns
@@ -45,8 +50,8 @@ returns c =
     let i = o.result in
     let e = o.ensures in
     let sp = c.requires.searching.spaced in
-    let p = c.spans in
-    let yes = sym (spans_is a.cx.now.coords.now a.cx.now.tolerance a.cx.now.layout w a.f a.g c.requires.searching.below) ∙ sym p.ensures ∙ c.if-not-spans.false in
+    let ok = of_index c.new.result (λ q b. c.spans.result ≡ is_spans (area_of a.cx.now.tolerance (points_of a.cx.now.coords.now (common (nodes_of q (input q b) a.f) (nodes_of q (input q b) a.g))))) c.new.ensures c.spans.ensures in
+    let yes = sym (spans_is a.cx.now.coords.now a.cx.now.tolerance a.cx.now.layout w a.f a.g c.requires.searching.below) ∙ sym ok ∙ c.if-not-spans.false in
     let y = c.list_cell in
     let m = y.ensures.1 ∙ ap (list_with a.cx.now.layout i a.r.listed) c.mark.ensures in
     let z = c.if-work-m-ne0.false in
