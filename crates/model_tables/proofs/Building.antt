@@ -4,12 +4,11 @@ use mathlib.Core.Path.{◌≡◌, refl, sym, ap, ◌∙◌, subst}
 use mathlib.Core.List.{List, map}
 use native.Mathlib.Nat.{le_trans}
 use native.Mathlib.Omega.{arith}
-use lib.Dec.{leb}
 use lib.Ieee.{Float}
 use lib.ListN.{length, replicate, length-replicate}
 use lib.Seq.{sets, length-sets, length-take-le}
-use Rattle.laws.specs.Lists.{each, sort}
-use Rattle.laws.specs.Merging.{region, starts_of, AllBelow}
+use Rattle.laws.specs.Lists.{each}
+use Rattle.laws.specs.Merging.{AllBelow}
 use Rattle.laws.proofs.Members.{below-distinct}
 use Rattle.geometry.specs.Coordinates.{node_count}
 use Rattle.mesh.specs.Model.{Model, Raw, cells_of}
@@ -30,15 +29,12 @@ use Rattle.findings.specs.Rules.{rules_of, rules_with}
 use Rattle.index.specs.Faces.{input, Room}
 use Rattle.layout.specs.declared.Layout.{Layout}
 use Rattle.layout.specs.Tables.{Spaced}
-use Rattle.layout.specs.ByCell.{bit}
 use Rattle.layout.specs.Shown.{Shows, Built}
-use Rattle.tables.specs.Owners.{owners_from}
 use Rattle.tables.proofs.Lengths.{cells_small}
-use Rattle.tables.proofs.Shown.{joined}
 use Rattle.model_tables.specs.Planned.{Planned}
 use Rattle.model_tables.proofs.Sizes.{sized_cells, sized_many, sets_total}
-use Rattle.model_tables.proofs.Reading.{holds_put, holds_before, holds_at, holds_long}
-use Rattle.model_tables.proofs.Contents.{meets, Settled, RingTables, FaceTables, Tabled, Cleared}
+use Rattle.model_tables.proofs.Reading.{holds_put, holds_before, holds_long}
+use Rattle.model_tables.proofs.Contents.{Settled, RingTables, FaceTables, Tabled, Cleared}
 use Rattle.model_tables.proofs.Ringing.{welds_held, first_at}
 use Rattle.model_tables.proofs.Facing.{bow_read, faces_are_lem as faces_shown, faced}
 use Rattle.model_tables.proofs.Stages.{rings_part, faces_part, tables_still}
@@ -57,30 +53,30 @@ module _ (coords : List Float) (tol : Float) (cells : List Raw) (M K : ℕ) (l :
         below = s.below;
         used = s.used;
         planned = record {
-        many_total = p.many_total;
-        many_faces = p.many_faces;
-        many_cells = p.many_cells;
-        many_nodes = p.many_nodes;
-        many_words = p.many_words;
-        many_sets = refl;
-        weld_at = p.weld_at;
-        rings_at = p.rings_at;
-        rows_at = p.rows_at;
-        firsts_at = p.firsts_at;
-        bows_at = p.bows_at;
-        cells_at = p.cells_at;
-        keys_at = p.keys_at;
-        starts_at = p.starts_at;
-        sets_at = p.sets_at;
-        offsets_at = p.offsets_at;
-        index_at = p.index_at;
-        second_at = p.second_at;
-        found_at = p.found_at;
-        marks_at = p.marks_at;
-        others_at = p.others_at;
-        last_at = p.last_at;
-        pairs_at = p.pairs_at;
-        spare_at = p.spare_at;
+          many_total = p.many_total;
+          many_faces = p.many_faces;
+          many_cells = p.many_cells;
+          many_nodes = p.many_nodes;
+          many_words = p.many_words;
+          many_sets = refl;
+          weld_at = p.weld_at;
+          rings_at = p.rings_at;
+          rows_at = p.rows_at;
+          firsts_at = p.firsts_at;
+          bows_at = p.bows_at;
+          cells_at = p.cells_at;
+          keys_at = p.keys_at;
+          starts_at = p.starts_at;
+          sets_at = p.sets_at;
+          offsets_at = p.offsets_at;
+          index_at = p.index_at;
+          second_at = p.second_at;
+          found_at = p.found_at;
+          marks_at = p.marks_at;
+          others_at = p.others_at;
+          last_at = p.last_at;
+          pairs_at = p.pairs_at;
+          spare_at = p.spare_at;
         };
       }
 
