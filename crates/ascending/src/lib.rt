@@ -1,4 +1,4 @@
-// An ascending list in a region of a lent slice.
+// A small list that ascends, in a region of a lent slice; two lists compared.
 #![tactic(auto)]
 
 ghost use Rattle.std.specs.Prelude.{◌≡◌, ◌+◌, ◌≤◌, ◌<◌, leb, length};
@@ -6,16 +6,15 @@ ghost use Rattle.std.proofs.lemmas.List.Edits.{sets};
 ghost use Rattle.laws.specs.Merging.{region, Asc};
 ghost use Rattle.laws.specs.Lists.{add, eql};
 
-// The j words from s on are the k words from t on. A loop: `==` on slices took a quarter longer where the first words differ.
-pub fn equal(base: &[u32], s: usize, j: usize, t: usize, k: usize) -> bool
-    requires { (s + j ≤ length base.now) × (t + k ≤ length base.now) }
-    ensures { result ≡ eql (region s j base.now) (region t k base.now) }
+// Two lists are equal. A loop: `==` on slices took a quarter longer where the first words differ.
+pub fn equal(a: &[u32], b: &[u32]) -> bool
+    ensures { result ≡ eql a.now b.now }
 {
-    if j != k {
+    if a.len() != b.len() {
         return false;
     }
-    for i in 0..j {
-        if base[s + i] != base[t + i] {
+    for i in 0..a.len() {
+        if a[i] != b[i] {
             return false;
         }
     }

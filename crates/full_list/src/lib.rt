@@ -5,18 +5,19 @@ ghost use Rattle.std.specs.Prelude.{◌≡◌, ◌+◌, ◌^◌, ◌≤◌, leng
 ghost use Rattle.mesh.specs.Lent.{lent};
 ghost use Rattle.mesh.specs.Acceptance.{faces_in, work_needed};
 ghost use Rattle.findings.specs.Rules.{full_of};
-ghost use Rattle.index.specs.Faces.{input};
-ghost use Rattle.seek.specs.Candidates.{Tallied};
-ghost use Rattle.layout.specs.Tables.{Faced};
+ghost use Rattle.seek.specs.Candidates.{by_nodes, Tallied};
+ghost use Rattle.layout.specs.Views.{faced_in};
 ghost use Rattle.all_cells.specs.Cells.{KeptEver};
 ghost use Rattle.full_list.specs.Ways.{taken, goes_by_nodes, sought_in};
 ghost use Rattle.full_list.specs.Found.{Ready, topology_of, butterflies_in, KeptBy, FoundIn};
 
+use layout::{Context, Layout, Tables};
 use mesh::{Accepted, Checks};
 use records::Sink;
-use seek::Tally;
+use seek::{Tally, Way};
 
-// How many findings there are, and how many faces were sought each way.
+// How many findings there are, and how many faces were sought each way. No generic pair with a tally, for this, `conformance::Checked` and
+// `candidates::SoughtFace`: what stands beside it would lose its name, which says what is counted.
 #[derive(Clone, Copy)]
 pub struct Counts {
     pub findings: usize,
@@ -32,29 +33,28 @@ pub enum Choice {
 }
 
 impl Choice {
-    // By common nodes, where `less` says whether that is less work.
-    fn by_nodes(self, less: bool) -> bool
-        ensures { result ≡ taken self less }
+    // The way that is taken, where `less` is less work.
+    fn way(self, less: Way) -> Way
+        ensures { by_nodes result ≡ taken self (by_nodes less) }
     {
         match self {
             Choice::LessWork => less,
-            Choice::ByNodes => true,
-            Choice::ByTriples => false,
+            Choice::ByNodes => Way::ByNodes,
+            Choice::ByTriples => Way::ByTriples,
         }
     }
 }
 
 // Kind 1, where the flags ask for it.
-fn find_butterflies(checks: Checks, work: &[u32], l: layout::Layout, sink: &mut Sink<'_>)
-    requires faced { Faced l (input l.at work.now) }
-    requires cell_count_bound { (l.at.cell_count ≤ 2 ^ 18) × (sink.old.count ≤ 2 ^ 40) }
-    ensures kept_ever { KeptEver (butterflies_in checks.0 l (input l.at work.now)) sink.old sink.new }
+fn find_butterflies(checks: Checks, t: &Tables, sink: &mut Sink<'_>)
+    requires cell_count_bound { (t.now.layout.now.at.cell_count ≤ 2 ^ 18) × (sink.old.count ≤ 2 ^ 40) }
+    ensures kept_ever { KeptEver (butterflies_in checks.0 t.now.layout.now (faced_in t.now)) sink.old sink.new }
     ensures upper_bound { sink.new.count ≤ sink.old.count + 2 ^ 40 }
 {
     if !checks.contains(Checks::BUTTERFLY) {
         return;
     }
-    all_cells::keep_bows(work, l, sink);
+    all_cells::keep_bows(t, sink);
 }
 
 // Kinds 2, 3 and 4, on tables that are built; every face is sought the way that the choice gives, and counted.
@@ -62,21 +62,25 @@ fn find_topology(
     model: &Accepted,
     choice: Choice,
     work: &mut [u32],
-    l: layout::Layout,
+    layout: Layout,
     sink: &mut Sink<'_>,
 ) -> Tally
-    requires ready { Ready (lent model.now.model) l work.old }
+    requires ready { Ready (lent model.now.model) layout work.old }
     requires few { sink.old.count ≤ 2 ^ 41 }
     ensures kept_by { KeptBy (lent model.now.model) (topology_of (lent model.now.model)) sink.old sink.new }
     ensures tallied { Tallied (goes_by_nodes choice (lent model.now.model)) (length (faces_in (lent model.now.model))) result }
 {
     let m = model.model;
-    let s = indexes::index_faces(work, l);
-    let by = s.by;
-    let by_nodes = choice.by_nodes(s.by_nodes);
-    all_cells::keep_overs(m.coords, work, l, by, sink);
-    let tally = all_cells::keep_pairs(m.coords, m.tolerance, work, l, by, by_nodes, sink);
-    all_cells::keep_repeats(&m, work, l, sink);
+    let cx = Context {
+        coords: m.coords,
+        tolerance: m.tolerance,
+        layout,
+    };
+    let s = indexes::index_faces(work, layout);
+    let way = choice.way(s.way);
+    all_cells::keep_overs(&cx, work, s.by, sink);
+    let tally = all_cells::keep_pairs(&cx, work, s.by, way, sink);
+    all_cells::keep_repeats(&cx, &m, work, sink);
     tally
 }
 
@@ -89,14 +93,18 @@ fn find_all(model: &Accepted, choice: Choice, work: &mut [u32], sink: &mut Sink<
 {
     let checks = model.model.checks;
     if !checks.intersects(Checks::ALL) {
-        return seek::unsought();
+        return Tally::default();
     }
-    let l = model_tables::build_tables(model, work);
-    find_butterflies(checks, work, l, sink);
+    let layout = model_tables::build_tables(model, work);
+    let tables = Tables {
+        work,
+        layout: &layout,
+    };
+    find_butterflies(checks, &tables, sink);
     if !checks.contains(Checks::TOPOLOGY) {
-        return seek::unsought();
+        return Tally::default();
     }
-    find_topology(model, choice, work, l, sink)
+    find_topology(model, choice, work, layout, sink)
 }
 
 // The same, counted, and the records of the first kept in the lent bytes.

@@ -1,6 +1,6 @@
 -- What stands in an index, read.
 use Prim.Native.Nat.{ℕ, suc, ◌+◌, ◌-◌, ◌≤◌, ◌<◌}
-use mathlib.Core.Path.{◌≡◌, sym, ap, ◌∙◌}
+use mathlib.Core.Path.{◌≡◌, sym, ap, ◌∙◌, subst}
 use mathlib.Core.List.{List}
 use native.Mathlib.Omega.{arith}
 use lib.ListN.{length, get_or}
@@ -10,8 +10,17 @@ use Rattle.laws.proofs.Stores.{region-take}
 use Rattle.counting.specs.Counts.{times, below}
 use Rattle.counting.proofs.CountLaws.{below_length, below_suc}
 use Rattle.index.specs.declared.Places.{Places}
+use Rattle.index.specs.declared.by_node.Index.{Index}
 use Rattle.index.specs.Faces.{input, cell_of, start_of, nodes_of, words_of, Indexed}
 use Rattle.index.proofs.Entries.{read_start, start_le, words_long, nodes_long, node_at}
+
+-- what holds of an index of p and b holds of p and b
+pub of_index : {p : Places} {b : List ℕ} (i : Index) (P : Places → List ℕ → Type 0) → (i.base.now ≡ b) × (i.at ≡ p) → P i.at i.base.now → P p b
+of_index {b = b} i P e h = subst (λ (q : Places). P q b) e.1 (subst (P i.at) e.0 h)
+
+-- and the other way round
+pub to_index : {p : Places} {b : List ℕ} (i : Index) (P : Places → List ℕ → Type 0) → (i.base.now ≡ b) × (i.at ≡ p) → P p b → P i.at i.base.now
+to_index {b = b} i P e h = subst (P i.at) (sym e.0) (subst (λ (q : Places). P q b) (sym e.1) h)
 
 module _ (p : Places) (b : List ℕ) (ix : Indexed p b) where
   abbrev pub t : List ℕ

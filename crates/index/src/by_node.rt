@@ -1,8 +1,8 @@
 // The faces by node, read.
-ghost use Rattle.std.specs.Prelude.{◌≡◌, ◌+◌, ◌<◌, length};
+ghost use Rattle.std.specs.Prelude.{◌≡◌, ◌+◌, ◌-◌, ◌≤◌, ◌<◌, length, get_or};
 ghost use Rattle.counting.specs.Counts.{times};
 ghost use Rattle.index.specs.Once.{once};
-ghost use Rattle.index.specs.Faces.{start_of, words_of, Indexed};
+ghost use Rattle.index.specs.Faces.{base, start_of, words_of, Indexed};
 
 use crate::Places;
 
@@ -16,6 +16,25 @@ pub struct Index<'a> {
 
 impl<'a> Index<'a> {
     ghost use Rattle.index.specs.Read.{input_of, set_of, is_bow};
+
+    // The index that stands in a work slice, below `found`.
+    pub fn new(work: &'a [u32], at: Places) -> Index<'a>
+        requires { (at.found ≤ length work.now) × Indexed at (base at work.now) }
+        ensures { (result.base.now ≡ base at work.now) × (result.at ≡ at) }
+    {
+        Index {
+            base: &work[..at.found],
+            at,
+        }
+    }
+
+    // How far the place in word k lies before that in the next word.
+    fn span(&self, k: usize) -> usize
+        requires { (k + 1 < length self.now.base.now) × (get_or self.now.base.now k 0 ≤ get_or self.now.base.now (k + 1) 0) }
+        ensures { result ≡ get_or self.now.base.now (k + 1) 0 - get_or self.now.base.now k 0 }
+    {
+        self.base[k + 1] as usize - self.base[k] as usize
+    }
 
     // Where the node set of face g starts.
     pub fn set_start(&self, g: usize) -> usize
@@ -31,10 +50,7 @@ impl<'a> Index<'a> {
         requires { g < self.now.at.faces }
         ensures { result ≡ length (set_of self.now g) }
     {
-        let k = self.at.starts + g;
-        let a = self.base[k] as usize;
-        let e = self.base[k + 1] as usize;
-        e - a
+        self.span(self.at.starts + g)
     }
 
     // The node set of face g.
@@ -60,9 +76,6 @@ impl<'a> Index<'a> {
         requires { v < self.now.at.nodes }
         ensures { result ≡ times v (words_of self.now.at (input_of self.now)) }
     {
-        let k = self.at.offsets + v;
-        let x = self.base[k] as usize;
-        let e = self.base[k + 1] as usize;
-        e - x
+        self.span(self.at.offsets + v)
     }
 }

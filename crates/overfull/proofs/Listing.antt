@@ -4,13 +4,15 @@ use mathlib.Core.Path.{◌≡◌, sym, ap, ap₂, ◌∙◌, subst}
 use mathlib.Core.Bool.{true}
 use mathlib.Core.List.{List}
 use native.Mathlib.Omega.{arith}
-use lib.ListN.{length, get_or, drop, length-take}
+use lib.ListN.{length, get_or, take, drop, length-take}
 use lib.Seq.{get_or-take, get_or-drop}
 use Rattle.laws.specs.Lists.{keep, elem}
 use Rattle.laws.proofs.Stores.{region-take}
 use Rattle.counting.proofs.CountLaws.{below_suc}
 use Rattle.index.specs.declared.Places.{Places}
-use Rattle.index.specs.Faces.{input, base, nodes_of, words_of}
+use Rattle.index.specs.declared.by_node.Index.{Index}
+use Rattle.index.specs.Read.{set_of}
+use Rattle.index.specs.Faces.{input, base, nodes_of, words_of, Indexed}
 use Rattle.merge.specs.Runs.{rest}
 use Rattle.index.proofs.Read.{below_words}
 use Rattle.seek.proofs.Searching.{input_base}
@@ -32,62 +34,74 @@ module _ (l : Layout) (q : Places) (w : List ℕ) (s : Standing l w) (kd : Keyed
   pub room : l.at.found ≤ length w
   room = omega (arith, s.spaced.marks_at, s.spaced.others_at, s.spaced.last_at, s.spaced.pairs_at, s.spaced.spare_at, s.spaced.ends)
 
-  -- g is a face of the second index
-  pub face : g < q.faces
-  face = omega (arith, h, kd.faces)
-
   -- what is read of the tables
   faced : Faced l (input l.at b)
   faced = subst (Faced l) (sym (input_base l.at w s.below)) s.faced
 
-  -- face g has keys there
-  pub has_key : 0 < length (nodes_of q (input q b) g)
-  has_key = has_keys l (input l.at b) faced g h q (input q b) kd.faces kd.keys
+  -- the second index can be read
+  pub indexed_by : (q.found ≤ length w) × Indexed q (base q w)
+  indexed_by = (omega (arith, kd.found, room), subst (Indexed q) (ap (λ (n : ℕ). take n w) (sym kd.found)) kd.indexed)
 
-  module _ (v : ℕ) (e : elem v (nodes_of q (input q b) g) ≡ true) where
-    -- v is a key
-    low : v < q.nodes
-    low = member_low q b kd.indexed g face v e
+  -- as it is read
+  module _ (ix : Index) (is : (ix.base.now ≡ base q w) × (ix.at ≡ q)) where
+    set_is : set_of ix g ≡ nodes_of q (input q b) g
+    set_is = ap₂ (λ (at : Places) (t : List ℕ). nodes_of at (input at t) g) is.1 (is.0 ∙ ap (λ (n : ℕ). take n w) kd.found)
 
-    -- the second index
-    bs : Beside l.at q b
-    bs = keyed_beside l.at q b kd
+    -- g is a face of it
+    pub face : g < ix.at.faces
+    face = omega (arith, h, kd.faces, ap (λ (at : Places). at.faces) is.1)
 
-    -- its offset and the next lie within the slice
-    pub slot_in : (q.offsets + v + 1 < length w) × (q.index ≤ length w)
-    slot_in = omega (arith, slot_low l.at q w room bs v low, room)
+    -- and has keys there
+    pub has_key : 0 < length (set_of ix g)
+    has_key = rw set_is (has_keys l (input l.at b) faced g h q (input q b) kd.faces kd.keys)
 
-    module _ (x y : ℕ) (is_x : x ≡ q.index + get_or w (q.offsets + v) 0) (is_y : y ≡ q.index + get_or w (q.offsets + v + 1) 0) where
-      -- within the slice
-      pub ends_in_lem : (x ≤ y) × (y ≤ l.at.found) × (l.at.found ≤ length w)
-      ends_in_lem = let o = within l.at q w room bs v low x y is_x is_y in (o.0, o.1, room)
+    module _ (v : ℕ) (m : elem v (set_of ix g) ≡ true) where
+      e : elem v (nodes_of q (input q b) g) ≡ true
+      e = sym (ap (elem v) set_is) ∙ m
 
-      -- its words are faces
-      pub listed : Listed l g (rest x y w)
-      listed =
-          let S = words_of q (input q b) in
-          record {
-            face = h;
-            few =
-                omega (
-                  arith,
-                  length-take (y - x) (drop x w),
-                  x_is l.at q w room bs v low x y is_x is_y,
-                  e_is l.at q w room bs v low x y is_x is_y,
-                  below_suc v S,
-                  below_words q b kd.indexed (suc v),
-                  kd.indexed.small.0,
-                );
-            faces = λ i k.
-                let n : i < y - x = omega (arith, k, length-take (y - x) (drop x w)) in
-                let f = all_faces l.at q w room bs v low x y is_x is_y (x + i) (omega arith) (omega (arith, n)) in
-                rw (get_or-take (y - x) (drop x w) i 0 n ∙ get_or-drop x w i 0 ∙ sym (get_or-take l.at.found w (x + i) 0 (omega (arith, n, ends_in_lem)))) f;
-          }
+      -- v is a key
+      low : v < q.nodes
+      low = member_low q b kd.indexed g (omega (arith, h, kd.faces)) v e
 
-      -- and all that have g's sorted ring are among them
-      pub all_alike : keep (same_as l (input l.at w) g) (rest x y w) ≡ alike l (input l.at w) g
-      all_alike =
-          let same = input_base l.at w s.below in
-          ap₂ (λ (t r : List ℕ). keep (same_as l t g) r) (sym same) (sym (region-take x (y - x) l.at.found w (omega (arith, ends_in_lem))) ∙ the_list l.at q w room bs v low x y is_x is_y)
-          ∙ in_list l (input l.at b) faced g h q (input q b) kd.faces kd.keys v e
-          ∙ ap (λ (t : List ℕ). alike l t g) same
+      -- the second index
+      bs : Beside l.at q b
+      bs = keyed_beside l.at q b kd
+
+      -- its offset and the next lie within the slice
+      pub slot_in : (q.offsets + v + 1 < length w) × (q.index ≤ length w)
+      slot_in = omega (arith, slot_low l.at q w room bs v low, room)
+
+      module _ (x y : ℕ) (is_x : x ≡ q.index + get_or w (q.offsets + v) 0) (is_y : y ≡ q.index + get_or w (q.offsets + v + 1) 0) where
+        -- within the slice
+        pub ends_in_lem : (x ≤ y) × (y ≤ l.at.found) × (l.at.found ≤ length w)
+        ends_in_lem = let o = within l.at q w room bs v low x y is_x is_y in (o.0, o.1, room)
+
+        -- its words are faces
+        pub listed : Listed l g (rest x y w)
+        listed =
+            let S = words_of q (input q b) in
+            record {
+              face = h;
+              few =
+                  omega (
+                    arith,
+                    length-take (y - x) (drop x w),
+                    x_is l.at q w room bs v low x y is_x is_y,
+                    e_is l.at q w room bs v low x y is_x is_y,
+                    below_suc v S,
+                    below_words q b kd.indexed (suc v),
+                    kd.indexed.small.0,
+                  );
+              faces = λ i k.
+                  let n : i < y - x = omega (arith, k, length-take (y - x) (drop x w)) in
+                  let f = all_faces l.at q w room bs v low x y is_x is_y (x + i) (omega arith) (omega (arith, n)) in
+                  rw (get_or-take (y - x) (drop x w) i 0 n ∙ get_or-drop x w i 0 ∙ sym (get_or-take l.at.found w (x + i) 0 (omega (arith, n, ends_in_lem)))) f;
+            }
+
+        -- and all that have g's sorted ring are among them
+        pub all_alike : keep (same_as l (input l.at w) g) (rest x y w) ≡ alike l (input l.at w) g
+        all_alike =
+            let same = input_base l.at w s.below in
+            ap₂ (λ (t r : List ℕ). keep (same_as l t g) r) (sym same) (sym (region-take x (y - x) l.at.found w (omega (arith, ends_in_lem))) ∙ the_list l.at q w room bs v low x y is_x is_y)
+            ∙ in_list l (input l.at b) faced g h q (input q b) kd.faces kd.keys v e
+            ∙ ap (λ (t : List ℕ). alike l t g) same

@@ -12,6 +12,7 @@ ghost use Rattle.layout.specs.ByCell.{over_face, over_cell};
 ghost use Rattle.overfull.specs.Alike.{same_as, alike, start, noted, tallied, Listed, FaceOf};
 ghost use Rattle.layout.specs.Kept.{KeptAny};
 
+use index::{Index, Places};
 use layout::{Context, Tables};
 use records::{Kind, Record, Sink};
 
@@ -28,13 +29,11 @@ fn same_key(t: &Tables, g: usize, h: usize) -> bool
     requires { (g < t.now.layout.now.at.faces) × (h < t.now.layout.now.at.faces) }
     ensures { result ≡ same_as t.now.layout.now (faced_in t.now) g h }
 {
-    let a = t.key(g);
-    let b = t.key(h);
-    a == b
+    ascending::equal(t.key(g), t.key(h))
 }
 
 // Of the keys of face g in an index, one that the fewest faces have.
-fn rarest(ix: &index::Index, g: usize) -> usize
+fn rarest(ix: &Index, g: usize) -> usize
     requires { (g < ix.now.at.faces) × (0 < length (set_of ix.now g)) }
     ensures { elem result (set_of ix.now g) ≡ true }
 {
@@ -87,18 +86,13 @@ fn walk(t: &Tables, g: usize, faces: &[u32]) -> Tally
 }
 
 // The faces with g's sorted ring, counted; none where one comes before g. They are sought in the shortest list of g's keys.
-fn count_alike(t: &Tables, by: index::Places, g: usize) -> Tally
+fn count_alike(t: &Tables, by: Places, g: usize) -> Tally
     requires standing { Standing t.now.layout.now t.now.work.now }
     requires g_lt_faces { (g < t.now.layout.now.at.faces) × Keyed t.now.layout.now.at by (base t.now.layout.now.at t.now.work.now) }
     ensures { result ≡ tallied g (alike t.now.layout.now (faced_in t.now) g) start }
 {
     let work = t.work;
-    let found = t.layout.at.found;
-    let keys = index::Index {
-        base: &work[..found],
-        at: by,
-    };
-    let v = rarest(&keys, g);
+    let v = rarest(&Index::new(work, by), g);
     let slot = by.offsets + v;
     let x = by.index + work[slot] as usize;
     let e = by.index + work[slot + 1] as usize;
@@ -106,7 +100,7 @@ fn count_alike(t: &Tables, by: index::Places, g: usize) -> Tally
 }
 
 // The finding of face g, where it is the first of more than two with its key.
-fn keep_face(cx: &Context, work: &[u32], by: index::Places, c: usize, g: usize, sink: &mut Sink<'_>)
+fn keep_face(cx: &Context, work: &[u32], by: Places, c: usize, g: usize, sink: &mut Sink<'_>)
     requires standing { Standing cx.now.layout work.now }
     requires face_of { FaceOf cx.now.layout (input cx.now.layout.at work.now) c g × Keyed cx.now.layout.at by (base cx.now.layout.at work.now) }
     requires few { sink.old.count < 2 ^ 57 }
@@ -136,7 +130,7 @@ fn keep_face(cx: &Context, work: &[u32], by: index::Places, c: usize, g: usize, 
 }
 
 // The overfull faces whose first cell is c.
-pub fn keep_overfull(cx: &Context, work: &[u32], by: index::Places, c: usize, sink: &mut Sink<'_>)
+pub fn keep_overfull(cx: &Context, work: &[u32], by: Places, c: usize, sink: &mut Sink<'_>)
     requires standing { Standing cx.now.layout work.now }
     requires c_bound { (c < cx.now.layout.at.cell_count) × Keyed cx.now.layout.at by (base cx.now.layout.at work.now) }
     requires few { sink.old.count ≤ 2 ^ 56 }

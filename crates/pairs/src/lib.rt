@@ -11,6 +11,7 @@ ghost use Rattle.triple_keys.specs.Keys.{Keyed};
 ghost use Rattle.pairs.specs.Tables.{with_index, ReadyAll};
 ghost use Rattle.pairs.specs.Work.{node_work, triple_work, is_by_nodes, Few};
 
+use index::Index;
 use seek::{Searched, Way};
 
 // Pairs of n things.
@@ -30,7 +31,7 @@ fn triples_of(n: usize) -> usize
 }
 
 // For each node the pairs of faces that have it, added up.
-pub fn node_work(ix: &index::Index) -> usize
+pub fn node_work(ix: &Index) -> usize
     requires { Few ix.now.at }
     ensures { result ≡ node_work ix.now.at (input_of ix.now) }
 {
@@ -42,7 +43,7 @@ pub fn node_work(ix: &index::Index) -> usize
 }
 
 // For each face the triples of its nodes, added up.
-pub fn triple_work(ix: &index::Index) -> usize
+pub fn triple_work(ix: &Index) -> usize
     requires { Few ix.now.at }
     ensures { (result ≡ triple_work ix.now.at (input_of ix.now)) × (result ≤ 2 ^ 36) }
 {
@@ -54,7 +55,7 @@ pub fn triple_work(ix: &index::Index) -> usize
 }
 
 // The way that is less work: by common nodes where that is at most four times the work of the way by triples.
-pub fn less_work(ix: &index::Index) -> Way
+pub fn less_work(ix: &Index) -> Way
     requires { Few ix.now.at }
     ensures { by_nodes result ≡ is_by_nodes ix.now.at (input_of ix.now) }
 {
@@ -74,13 +75,8 @@ pub fn prepare(work: &mut [u32], at: index::Places) -> Way
     ensures work_after { work.new ≡ with_index at work.old }
     ensures ready_all { ReadyAll at work.new }
 {
-    let found = at.found;
     index::build_index(work, at);
-    let ix = index::Index {
-        base: &work[..found],
-        at: at,
-    };
-    less_work(&ix)
+    less_work(&Index::new(work, at))
 }
 
 // The candidates of face lo, sought the way that is asked for.

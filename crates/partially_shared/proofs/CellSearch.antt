@@ -4,6 +4,7 @@ use mathlib.Core.Path.{◌≡◌, refl, sym, ap, ap₂, ◌∙◌, subst}
 use mathlib.Core.Logic.{⊎_elim}
 use mathlib.Core.List.{List, [], ◌∷◌, ◌++◌, append-nil}
 use native.Mathlib.Omega.{arith}
+use Rattle.std.specs.Prelude.{Some}
 use lib.ListN.{get_or, get_or-replicate}
 use Rattle.laws.specs.Lists.{each, up_from}
 use Rattle.laws.proofs.ListLaws.{each_append, up_from_snoc}
@@ -16,7 +17,7 @@ use Rattle.seek.proofs.Condition.{not_later, own_cell}
 use Rattle.layout.specs.declared.Layout.{Layout}
 use Rattle.layout.specs.Tables.{first_of, Faced, Standing}
 use Rattle.partially_shared.specs.declared.Range.{Range}
-use Rattle.partially_shared.specs.Listing.{Listed}
+use Rattle.partially_shared.specs.Listing.{ListedIf}
 use Rattle.partially_shared.specs.Hits.{face_hits, cell_hits, hit_of, Marked, MarkedMore, Searching, Beside}
 use Rattle.partially_shared.proofs.Searched.{beside_then, searching_on, input_on, searches}
 
@@ -39,14 +40,14 @@ mark_zero l w b s h =
     ∙ get_or-replicate l.at.cell_count b 0 0 h
 
 -- no face is done
-pub facing_start : (R : Rules) (l : Layout) (w : List ℕ) (s : Range) (a : ℕ) → Standing l w → s.hi ≡ 0 → s.count ≡ 0 → Facing R l a w w s a
+pub facing_start : (R : Rules) (l : Layout) (w : List ℕ) (s : Range) (a : ℕ) → Standing l w → s.hi ≡ 0 → s.listed ≡ Some 0 → Facing R l a w w s a
 unfolding hit_of
 facing_start R l w s a st h n = record {
   beside = record { before = refl; behind = refl; long = refl };
   marked = subst (λ (H : List (ℕ × ℕ)). Marked l (input l.at w) H w s) none record {
     marks = λ b k. mark_zero l w b st k;
     within = λ b k z. absurd (z (mark_zero l w b st k));
-    listed = λ few. subst (Listed l w) (sym n) record { known = λ b k. absurd k; there = λ b k z. absurd (z (mark_zero l w b st k)) };
+    listed = subst (ListedIf l w) (sym n) (omega arith, record { known = λ b k. absurd k; there = λ b k z. absurd (z (mark_zero l w b st k)) });
   };
   high = omega (arith, h);
   search = searches l w st;

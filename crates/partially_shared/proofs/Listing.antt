@@ -7,6 +7,7 @@ use mathlib.Core.List.{List, [], ◌∷◌, ◌++◌}
 use native.Mathlib.Omega.{arith}
 use borrow.Author.Tests.{ltb-true, ltb-false, lt-ltb, le-ltb, eqb-true, eqb-false}
 use lib.Dec.{ltb, eqb}
+use Rattle.std.specs.Prelude.{Option, Some, None}
 use lib.ListN.{length, get_or, set, drop, length-set}
 use lib.Seq.{get_or-set_same, get_or-set_other, take-set-le}
 use Rattle.laws.specs.Lists.{insert, sort}
@@ -18,7 +19,7 @@ use Rattle.pair_sort.proofs.PairLaws.{pairs_add, pairs_from}
 use Rattle.pair_sort.proofs.PairOrder.{le_more, pair_total}
 use Rattle.layout.specs.declared.Layout.{Layout}
 use Rattle.layout.specs.Tables.{Spaced}
-use Rattle.partially_shared.specs.Listing.{Has, Rising, Listed, list_count, list_with}
+use Rattle.partially_shared.specs.Listing.{Has, Rising, Listed, ListedIf, list_count, list_with}
 use Rattle.partially_shared.specs.Hits.{Beside}
 
 -- ---- what pairs have
@@ -127,32 +128,38 @@ pairs_set o (suc n) i x w h =
     (pairs_set (o + 2) n i x w (omega (arith, h)))
 
 -- what becomes of the list where it has room, and where not
-pub list_room : (l : Layout) (b x n : ℕ) (w : List ℕ) → n < l.words → x ≡ b → (n + 1 ≡ list_count l n) × (set w (l.pairs + 2 * n) x ≡ list_with l b n w)
+pub list_room : (l : Layout) (b n : ℕ) (w : List ℕ) → n < l.words → (Some (n + 1) ≡ list_count l (Some n)) × (set w (l.pairs + 2 * n) b ≡ list_with l b (Some n) w)
 unfolding list_count list_with
-list_room l b x n w h e = (
-  sym (ap (λ (y : Bool). cond y (n + 1) (l.words + 1)) (lt-ltb n l.words h)),
-  ap (set w (l.pairs + 2 * n)) e ∙ sym (ap (λ (y : Bool). cond y (set w (l.pairs + 2 * n) b) w) (lt-ltb n l.words h)),
+list_room l b n w h = (
+  sym (ap (λ (y : Bool). cond y (Some (n + 1)) None) (lt-ltb n l.words h)),
+  sym (ap (λ (y : Bool). cond y (set w (l.pairs + 2 * n) b) w) (lt-ltb n l.words h)),
 )
 
-pub list_full : (l : Layout) (b n : ℕ) (w : List ℕ) → l.words ≤ n → (l.words + 1 ≡ list_count l n) × (w ≡ list_with l b n w)
+pub list_full : (l : Layout) (b n : ℕ) (w : List ℕ) → l.words ≤ n → (None ≡ list_count l (Some n)) × (w ≡ list_with l b (Some n) w)
 unfolding list_count list_with
 list_full l b n w h = (
-  sym (ap (λ (y : Bool). cond y (n + 1) (l.words + 1)) (le-ltb n l.words h)),
+  sym (ap (λ (y : Bool). cond y (Some (n + 1)) None) (le-ltb n l.words h)),
   sym (ap (λ (y : Bool). cond y (set w (l.pairs + 2 * n) b) w) (le-ltb n l.words h)),
 )
 
+pub list_none : (l : Layout) (b : ℕ) (w : List ℕ) → (None ≡ list_count l None) × (w ≡ list_with l b None w)
+unfolding list_count list_with
+list_none l b w = (refl, refl)
+
 -- a word before the list is as it was
-pub list_before : (l : Layout) (b n : ℕ) (w : List ℕ) (i : ℕ) → i < l.pairs → get_or (list_with l b n w) i 0 ≡ get_or w i 0
+pub list_before : (l : Layout) (b : ℕ) (n : Option ℕ) (w : List ℕ) (i : ℕ) → i < l.pairs → get_or (list_with l b n w) i 0 ≡ get_or w i 0
 unfolding list_with
-list_before l b n w i h = go (ltb n l.words)
+list_before l b None w i h = refl
+list_before l b (Some n) w i h = go (ltb n l.words)
   where
     go : (x : Bool) → get_or (cond x (set w (l.pairs + 2 * n) b) w) i 0 ≡ get_or w i 0
     go true = get_or-set_other w (l.pairs + 2 * n) i b 0 (λ e. absurd (omega (arith, e, h)))
     go false = refl
 
-pub list_beside : (l : Layout) (b n : ℕ) (w : List ℕ) → Spaced l (length w) → Beside l.marks l w (list_with l b n w)
+pub list_beside : (l : Layout) (b : ℕ) (n : Option ℕ) (w : List ℕ) → Spaced l (length w) → Beside l.marks l w (list_with l b n w)
 unfolding list_with
-list_beside l b n w sp = go (ltb n l.words)
+list_beside l b None w sp = record { before = refl; behind = refl; long = refl }
+list_beside l b (Some n) w sp = go (ltb n l.words)
   where
     go : (x : Bool) → Beside l.marks l w (cond x (set w (l.pairs + 2 * n) b) w)
     go true = record {
@@ -163,11 +170,12 @@ list_beside l b n w sp = go (ltb n l.words)
     go false = record { before = refl; behind = refl; long = refl }
 
 -- the list of w, of which v is the next state, with c behind it: c is marked in v, and no other that was not
-pub listed_more : (l : Layout) (c n k : ℕ) (w v : List ℕ) → Spaced l (length w) → length v ≡ length w → c < l.at.cell_count → drop l.pairs v ≡ drop l.pairs w
+pub listed_more : (l : Layout) (c : ℕ) (n : Option ℕ) (w v : List ℕ) → Spaced l (length w) → length v ≡ length w → c < l.at.cell_count → drop l.pairs v ≡ drop l.pairs w
     → ((b : ℕ) → b < l.at.cell_count → c ≢ b → get_or v (l.marks + b) 0 ≡ get_or w (l.marks + b) 0)
-    → (n ≤ l.words → Listed l w n) → k ≡ list_count l n → k ≤ l.words → Listed l (list_with l c n v) k
+    → ListedIf l w n → ListedIf l (list_with l c n v) (list_count l n)
 unfolding list_count list_with
-listed_more l c n k w v sp long low same other p is fits = go (tested (ltb n l.words))
+listed_more l c None w v sp long low same other p = tt
+listed_more l c (Some n) w v sp long low same other p = go (tested (ltb n l.words))
   where
     u : List ℕ
     u = set v (l.pairs + 2 * n) c
@@ -193,21 +201,23 @@ listed_more l c n k w v sp long low same other p is fits = go (tested (ltb n l.w
         }
       where
         low_one : (b : ℕ) → Has b ps ⊎ Has b ((c, get_or u (l.pairs + 2 * n + 1) 0) ∷ []) → b < l.at.cell_count
-        low_one b (inl a) = (p (omega (arith, h))).known b a
+        low_one b (inl a) = p.1.known b a
         low_one b (inr (inl a)) = omega (arith, a, low)
         low_one b (inr (inr a)) = absurd a
 
         has_one : (b : ℕ) → b < l.at.cell_count → get_or u (l.marks + b) 0 ≢ 0 → (eqb c b ≡ true) ⊎ (eqb c b ≡ false) → Has b ps ⊎ Has b ((c, get_or u (l.pairs + 2 * n + 1) 0) ∷ [])
         has_one b a m (inl e) = inr (inl (eqb-true c b e))
-        has_one b a m (inr e) = inl ((p (omega (arith, h))).there b a (λ z. m (mark b a ∙ other b a (eqb-false c b e) ∙ z)))
+        has_one b a m (inr e) = inl (p.1.there b a (λ z. m (mark b a ∙ other b a (eqb-false c b e) ∙ z)))
 
-    go : (ltb n l.words ≡ true) ⊎ (ltb n l.words ≡ false) → Listed l (cond (ltb n l.words) u v) k
+    go : (ltb n l.words ≡ true) ⊎ (ltb n l.words ≡ false) → ListedIf l (cond (ltb n l.words) u v) (cond (ltb n l.words) (Some (n + 1)) None)
     go (inl e) =
-        let j : n + 1 ≡ k = sym (is ∙ ap (λ (x : Bool). cond x (n + 1) (l.words + 1)) e) in
-        subst (λ (x : Bool). Listed l (cond x u v) k) (sym e) (subst (Listed l u) j (more (ltb-true n l.words e)))
-    go (inr e) =
-        let j : k ≡ l.words + 1 = is ∙ ap (λ (x : Bool). cond x (n + 1) (l.words + 1)) e in
-        absurd (omega (arith, j, fits))
+        let h = ltb-true n l.words e in
+        subst (λ (x : Bool). ListedIf l (cond x u v) (cond x (Some (n + 1)) None)) (sym e) (omega (arith, h), more h)
+    go (inr e) = subst (λ (x : Bool). ListedIf l (cond x u v) (cond x (Some (n + 1)) None)) (sym e) tt
+
+-- a list that has had room for all, by its number
+pub list_there : (l : Layout) (w : List ℕ) (x : Option ℕ) (n : ℕ) → x ≡ Some n → ListedIf l w x → (n ≤ l.words) × Listed l w n
+list_there l w x n e p = subst (ListedIf l w) e p
 
 pairs_alike : (l : Layout) (n : ℕ) (u w : List ℕ) → ((i : ℕ) → l.marks ≤ i → get_or w i 0 ≡ get_or u i 0) → (o : ℕ) → l.marks ≤ o → pairs_at o n w ≡ pairs_at o n u
 pairs_alike l zero u w same o h = refl
@@ -217,8 +227,12 @@ pairs_alike l (suc n) u w same o h =
     (pairs_alike l n u w same (o + 2) (omega (arith, h)))
 
 -- the list stands in another slice with the same words from `marks` on
-pub listed_same : (l : Layout) (n : ℕ) (u w : List ℕ) → ((i : ℕ) → l.marks ≤ i → get_or w i 0 ≡ get_or u i 0) → l.marks ≤ l.pairs → Listed l u n → Listed l w n
-listed_same l n u w same h p = record {
-  known = λ b a. p.known b (subst (Has b) (pairs_alike l n u w same l.pairs h) a);
-  there = λ b a z. subst (Has b) (sym (pairs_alike l n u w same l.pairs h)) (p.there b a (λ e. z (same (l.marks + b) (omega arith) ∙ e)));
-}
+pub listed_same : (l : Layout) (n : Option ℕ) (u w : List ℕ) → ((i : ℕ) → l.marks ≤ i → get_or w i 0 ≡ get_or u i 0) → l.marks ≤ l.pairs → ListedIf l u n → ListedIf l w n
+listed_same l None u w same h p = tt
+listed_same l (Some n) u w same h p = (
+  p.0,
+  record {
+    known = λ b a. p.1.known b (subst (Has b) (pairs_alike l n u w same l.pairs h) a);
+    there = λ b a z. subst (Has b) (sym (pairs_alike l n u w same l.pairs h)) (p.1.there b a (λ e. z (same (l.marks + b) (omega arith) ∙ e)));
+  },
+)

@@ -7,6 +7,7 @@ use mathlib.Core.List.{List, [], ◌∷◌, ◌++◌, map, append-nil}
 use native.Mathlib.Omega.{arith}
 use borrow.Author.Tests.{eqb-true}
 use lib.Dec.{eqb}
+use Rattle.std.specs.Prelude.{Option}
 use lib.ListN.{length, get_or, set, drop, length-set}
 use lib.Seq.{get_or-set_same, get_or-set_other, take-set-le, drop-set-lt}
 use lib.Ieee.{Float}
@@ -25,7 +26,7 @@ use Rattle.layout.specs.ByCell.{plain_rules}
 use Rattle.layout.specs.declared.Layout.{Layout}
 use Rattle.layout.specs.Tables.{Spaced}
 use Rattle.partially_shared.specs.declared.Range.{Range}
-use Rattle.partially_shared.specs.Listing.{list_count, list_with}
+use Rattle.partially_shared.specs.Listing.{ListedIf, list_count, list_with}
 use Rattle.partially_shared.specs.Hits.{spans_at, passing, hit_of, MarkIs, Marked, Beside}
 use Rattle.partially_shared.proofs.Listing.{list_before, list_beside, listed_more}
 
@@ -57,7 +58,7 @@ marks_beside l w c x y sp low = record {
 }
 
 -- and for its place in the list
-pub noted_beside : (l : Layout) (w : List ℕ) (c n x y : ℕ) → Spaced l (length w) → c < l.at.cell_count → Beside l.marks l w (list_with l c n (set (set w (l.marks + c) x) (l.others + c) y))
+pub noted_beside : (l : Layout) (w : List ℕ) (c : ℕ) (n : Option ℕ) (x y : ℕ) → Spaced l (length w) → c < l.at.cell_count → Beside l.marks l w (list_with l c n (set (set w (l.marks + c) x) (l.others + c) y))
 noted_beside l w c n x y sp low =
     let b = marks_beside l w c x y sp low in
     let d = list_beside l c n (set (set w (l.marks + c) x) (l.others + c) y) (subst (Spaced l) (sym b.long) sp) in
@@ -131,14 +132,14 @@ module _ (R : Rules) (l : Layout) (t : List ℕ) (f g : ℕ) where
       q = set (set w (l.marks + c) (f + 1)) (l.others + c) g
 
       abbrev v : List ℕ
-      v = list_with l c r.count q
+      v = list_with l c r.listed q
 
       -- listing changes no mark
       mark_as : (b : ℕ) → b < l.at.cell_count → get_or v (l.marks + b) 0 ≡ get_or q (l.marks + b) 0
-      mark_as b k = list_before l c r.count q (l.marks + b) (omega (arith, k, sp.others_at, sp.last_at, sp.pairs_at))
+      mark_as b k = list_before l c r.listed q (l.marks + b) (omega (arith, k, sp.others_at, sp.last_at, sp.pairs_at))
 
       other_as : (b : ℕ) → b < l.at.cell_count → get_or v (l.others + b) 0 ≡ get_or q (l.others + b) 0
-      other_as b k = list_before l c r.count q (l.others + b) (omega (arith, k, sp.last_at, sp.pairs_at))
+      other_as b k = list_before l c r.listed q (l.others + b) (omega (arith, k, sp.last_at, sp.pairs_at))
 
       -- the words of other cells are as they were
       mark_first : (b : ℕ) → b < l.at.cell_count → c ≢ b → get_or q (l.marks + b) 0 ≡ get_or w (l.marks + b) 0
@@ -168,8 +169,8 @@ module _ (R : Rules) (l : Layout) (t : List ℕ) (f g : ℕ) where
       other_own = other_as c low ∙ get_or-set_same (set w (l.marks + c) (f + 1)) (l.others + c) g 0 (omega (arith, length-set w (l.marks + c) (f + 1), sp.last_at, sp.pairs_at, sp.spare_at, sp.ends, low))
 
       -- a pair that passes marks its cell, where that is not marked yet
-      pub marked_in : (s : Range) → get_or w (l.marks + c) 0 ≡ 0 → spans_at R l t f g ≡ true → s.lo ≡ min r.lo c → s.hi ≡ max r.hi (c + 1) → s.count ≡ list_count l r.count → Marked l t (H ++ passing R l t f (g ∷ [])) v s
-      marked_in s z y lo hi count = record { marks = mark; within = inside; listed = listed_more l c r.count s.count w q sp long low behind mark_first p.listed count }
+      pub marked_in : (s : Range) → get_or w (l.marks + c) 0 ≡ 0 → spans_at R l t f g ≡ true → s.lo ≡ min r.lo c → s.hi ≡ max r.hi (c + 1) → s.listed ≡ list_count l r.listed → Marked l t (H ++ passing R l t f (g ∷ [])) v s
+      marked_in s z y lo hi count = record { marks = mark; within = inside; listed = subst (ListedIf l v) (sym count) (listed_more l c r.listed w q sp long low behind mark_first p.listed) }
         where
           long : length q ≡ length w
           long = length-set (set w (l.marks + c) (f + 1)) (l.others + c) g ∙ length-set w (l.marks + c) (f + 1)

@@ -108,7 +108,7 @@ more_from l t more u w v q s same h j a hits p = a hits record {
   marks = λ b k. subst (λ (x : ℕ). MarkIs x (get_or w (l.others + b) 0) (hit_of l t b hits)) (sym (same (l.marks + b) (omega arith)))
       (subst (λ (x : ℕ). MarkIs (get_or u (l.marks + b) 0) x (hit_of l t b hits)) (sym (same (l.others + b) (omega (arith, h)))) (p.marks b k));
   within = λ b k z. p.within b k (λ e. z (same (l.marks + b) (omega arith) ∙ e));
-  listed = λ few. listed_same l q.count u w same j (p.listed few);
+  listed = listed_same l q.listed u w same j p.listed;
 }
 
 -- ---- the candidates of a face, in turn

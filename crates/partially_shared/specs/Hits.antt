@@ -8,7 +8,7 @@ use Rattle.seek.specs.Candidates.{common, candidates}
 use Rattle.layout.specs.declared.Layout.{Layout}
 use Rattle.layout.specs.Tables.{first_of, Faced, Spaced}
 use Rattle.partially_shared.specs.declared.Range.{Range}
-use Rattle.partially_shared.specs.Listing.{Listed}
+use Rattle.partially_shared.specs.Listing.{ListedIf}
 
 -- the common nodes of faces f and g pass the area test
 unfoldable pub spans_at : Rules → Layout → List ℕ → ℕ → ℕ → Bool
@@ -38,7 +38,7 @@ MarkIs m o (h ∷ hs) = (m ≡ suc h.0) × (o ≡ h.1)
 pub record Marked (l : Layout) (t : List ℕ) (hits : List (ℕ × ℕ)) (w : List ℕ) (r : Range) : Type 0 where
   pub marks : (b : ℕ) → b < l.at.cell_count → MarkIs (get_or w (l.marks + b) 0) (get_or w (l.others + b) 0) (hit_of l t b hits)
   pub within : (b : ℕ) → b < l.at.cell_count → get_or w (l.marks + b) 0 ≢ 0 → (r.lo ≤ b) × (b < r.hi)
-  pub listed : r.count ≤ l.words → Listed l w r.count
+  pub listed : ListedIf l w r.listed
 
 -- what was marked before is marked with these behind
 abbrev pub MarkedMore : Layout → List ℕ → List (ℕ × ℕ) → (w v : List ℕ) → (r s : Range) → Type 0

@@ -2,9 +2,8 @@
 // which their candidates were sought.
 ghost use Rattle.std.specs.Prelude.{◌≡◌, [], ◌∷◌, ◌+◌, ◌^◌, ◌≤◌, ◌<◌, length, set};
 ghost use Rattle.laws.specs.Merging.{region};
-ghost use Rattle.geometry.specs.Coordinates.{node_count};
 ghost use Rattle.index.specs.Faces.{input, base};
-ghost use Rattle.seek.specs.Candidates.{candidates, TalliedMore};
+ghost use Rattle.seek.specs.Candidates.{candidates, by_nodes, TalliedMore};
 ghost use Rattle.seek.specs.Steps.{Hidden};
 ghost use Rattle.triple_keys.specs.Keys.{Keyed};
 ghost use Rattle.layout.specs.Tables.{face_count, Spaced, Standing};
@@ -13,151 +12,130 @@ ghost use Rattle.partially_shared.specs.Listing.{list_count, list_with};
 ghost use Rattle.partially_shared.specs.Hits.{passing, face_hits, cell_hits, Marked, MarkedMore, Searching, Beside};
 
 use crate::{Noted, Range};
+use index::{Index, Places};
+use layout::{Context, Layout, Tables};
+use seek::Way;
 
-// Cell b is listed behind n others, where there is room: as the first word of a pair, whose second word may be any.
-fn list_cell(work: &mut [u32], l: layout::Layout, b: usize, n: usize) -> usize
-    requires spaced { Spaced l (length work.old) }
-    requires b_bound { b < l.at.cell_count }
-    ensures { (result ≡ list_count l n) × (work.new ≡ list_with l b n work.old) }
+// Cell b is listed behind n others, where there is room: as the first word of a pair, whose second word may be any. None where the list
+// has not had room for all.
+fn list_cell(work: &mut [u32], l: &Layout, b: usize, n: Option<usize>) -> Option<usize>
+    requires spaced { Spaced l.now (length work.old) }
+    requires b_bound { b < l.now.at.cell_count }
+    ensures { (result ≡ list_count l.now n) × (work.new ≡ list_with l.now b n work.old) }
 {
-    let words = l.words;
-    if n < words {
-        let at = l.pairs + 2 * n;
-        work[at] = b as u32;
-        return n + 1;
+    let Some(n) = n else {
+        return None;
+    };
+    if n >= l.words {
+        return None;
     }
-    words + 1
+    let at = l.pairs + 2 * n;
+    work[at] = b as u32;
+    Some(n + 1)
 }
 
-// Cell b gets the mark of faces f and g.
-fn mark(work: &mut [u32], l: layout::Layout, b: usize, f: usize, g: usize)
-    requires spaced { Spaced l (length work.old) }
-    requires b_bound { (b < l.at.cell_count) × (f < l.at.faces) × (g < l.at.faces) }
-    ensures { work.new ≡ set (set work.old (l.marks + b) (f + 1)) (l.others + b) g }
+// Cell b gets the mark of faces f and g: one more than f, for the marks are words of the lent slice, which has 0 for none.
+fn mark(work: &mut [u32], l: &Layout, b: usize, f: usize, g: usize)
+    requires spaced { Spaced l.now (length work.old) }
+    requires b_bound { (b < l.now.at.cell_count) × (f < l.now.at.faces) × (g < l.now.at.faces) }
+    ensures { work.new ≡ set (set work.old (l.now.marks + b) (f + 1)) (l.now.others + b) g }
 {
     work[l.marks + b] = (f + 1) as u32;
     work[l.others + b] = g as u32;
 }
 
 // Faces f and g of different cells: the cell of g is marked with them, unless it is marked or their common nodes span no area.
-fn note(
-    coords: &[f64],
-    tol: f64,
-    work: &mut [u32],
-    l: layout::Layout,
-    f: usize,
-    g: usize,
-    r: Range,
-) -> Range
-    requires searching { Searching l work.old }
-    requires f_lt_faces { (f < l.at.faces) × (g < l.at.faces) × (l.at.nodes ≡ node_count coords.now) × (r.hi ≤ l.at.cell_count) }
-    ensures marked_more { MarkedMore l (input l.at work.old) (passing (plain_rules coords.now tol) l (input l.at work.old) f (g ∷ [])) work.old work.new r result }
-    ensures beside { Beside l.marks l work.old work.new × (result.hi ≤ l.at.cell_count) }
+fn note(cx: &Context, work: &mut [u32], f: usize, g: usize, r: Range) -> Range
+    requires searching { Searching cx.now.layout work.old }
+    requires f_lt_faces { (f < cx.now.layout.at.faces) × (g < cx.now.layout.at.faces) × (r.hi ≤ cx.now.layout.at.cell_count) }
+    ensures marked_more { MarkedMore cx.now.layout (input cx.now.layout.at work.old) (passing (plain_rules cx.now.coords.now cx.now.tolerance) cx.now.layout (input cx.now.layout.at work.old) f (g ∷ [])) work.old work.new r result }
+    ensures beside { Beside cx.now.layout.marks cx.now.layout work.old work.new × (result.hi ≤ cx.now.layout.at.cell_count) }
 {
-    let at = l.at;
-    let found = at.found;
-    let b = layout::cell_of(work, l, g);
+    let l = &cx.layout;
+    let b = Tables { work, layout: l }.cell_of(g);
     let m = l.marks + b;
     if work[m] != 0 {
         return r;
     }
-    let ix = index::Index {
-        base: &work[..found],
-        at: at,
-    };
-    if !common_nodes::spans(coords, tol, &ix, f, g) {
+    if !common_nodes::spans(cx.coords, cx.tolerance, &Index::new(work, l.at), f, g) {
         return r;
     }
     mark(work, l, b, f, g);
-    let count = list_cell(work, l, b, r.count);
     Range {
         lo: r.lo.min(b),
         hi: r.hi.max(b + 1),
-        count,
+        listed: list_cell(work, l, b, r.listed),
     }
 }
 
 // The n candidates of face f, which stand at `found`, in order.
-fn note_found(
-    coords: &[f64],
-    tol: f64,
-    work: &mut [u32],
-    l: layout::Layout,
-    f: usize,
-    n: usize,
-    r: Range,
-) -> Range
-    requires searching { Searching l work.old }
-    requires f_lt_faces { (f < l.at.faces) × (l.at.nodes ≡ node_count coords.now) × (r.hi ≤ l.at.cell_count) × (n ≡ length (candidates l.at (input l.at work.old) f)) × (region l.at.found n work.old ≡ candidates l.at (input l.at work.old) f) }
-    ensures marked_more { MarkedMore l (input l.at work.old) (face_hits (plain_rules coords.now tol) l (input l.at work.old) f) work.old work.new r result }
-    ensures beside { Beside l.marks l work.old work.new × (result.hi ≤ l.at.cell_count) }
+fn note_found(cx: &Context, work: &mut [u32], f: usize, n: usize, r: Range) -> Range
+    requires searching { Searching cx.now.layout work.old }
+    requires f_lt_faces { (f < cx.now.layout.at.faces) × (r.hi ≤ cx.now.layout.at.cell_count) × (n ≡ length (candidates cx.now.layout.at (input cx.now.layout.at work.old) f)) × (region cx.now.layout.at.found n work.old ≡ candidates cx.now.layout.at (input cx.now.layout.at work.old) f) }
+    ensures marked_more { MarkedMore cx.now.layout (input cx.now.layout.at work.old) (face_hits (plain_rules cx.now.coords.now cx.now.tolerance) cx.now.layout (input cx.now.layout.at work.old) f) work.old work.new r result }
+    ensures beside { Beside cx.now.layout.marks cx.now.layout work.old work.new × (result.hi ≤ cx.now.layout.at.cell_count) }
 {
+    let found = cx.layout.at.found;
     let mut s = r;
+    // by index: the same slice has the marks, which each turn writes
     for i in 0..n {
-        let g = work[l.at.found + i] as usize;
-        s = note(coords, tol, work, l, f, g, s);
+        let g = work[found + i] as usize;
+        s = note(cx, work, f, g, s);
     }
     s
 }
 
 // Face f: its candidates, of which none is before `end`, are sought the way that is asked for, noted, and the face is counted.
 fn note_face(
-    coords: &[f64],
-    tol: f64,
+    cx: &Context,
     work: &mut [u32],
-    l: layout::Layout,
-    by: index::Places,
+    by: Places,
     f: usize,
     end: usize,
-    by_nodes: bool,
+    way: Way,
     r: Noted,
 ) -> Noted
-    requires searching { Searching l work.old }
-    requires f_lt_faces { (f < l.at.faces) × (l.at.nodes ≡ node_count coords.now) × (r.range.hi ≤ l.at.cell_count) × Keyed l.at by (base l.at work.old) }
-    requires end_le_faces { (end ≤ l.at.faces) × Hidden l.at (input l.at work.old) f end }
+    requires searching { Searching cx.now.layout work.old }
+    requires f_lt_faces { (f < cx.now.layout.at.faces) × (r.range.hi ≤ cx.now.layout.at.cell_count) × Keyed cx.now.layout.at by (base cx.now.layout.at work.old) }
+    requires end_le_faces { (end ≤ cx.now.layout.at.faces) × Hidden cx.now.layout.at (input cx.now.layout.at work.old) f end }
     requires nodes_bound { (r.tally.nodes < 2 ^ 40) × (r.tally.triples < 2 ^ 40) }
-    ensures marked_more { MarkedMore l (input l.at work.old) (face_hits (plain_rules coords.now tol) l (input l.at work.old) f) work.old work.new r.range result.range }
-    ensures beside { Beside l.at.found l work.old work.new × (result.range.hi ≤ l.at.cell_count) }
-    ensures tallied_more { TalliedMore by_nodes 1 r.tally result.tally }
+    ensures marked_more { MarkedMore cx.now.layout (input cx.now.layout.at work.old) (face_hits (plain_rules cx.now.coords.now cx.now.tolerance) cx.now.layout (input cx.now.layout.at work.old) f) work.old work.new r.range result.range }
+    ensures beside { Beside cx.now.layout.at.found cx.now.layout work.old work.new × (result.range.hi ≤ cx.now.layout.at.cell_count) }
+    ensures tallied_more { TalliedMore (by_nodes way) 1 r.tally result.tally }
 {
-    let at = l.at;
-    let before = r.range;
-    let tally = r.tally;
-    let found = pairs::candidates_of(work, at, by, f, end, by_nodes);
-    let more = found.tallied(tally);
-    let range = note_found(coords, tol, work, l, f, found.count(), before);
-    Noted { range, tally: more }
+    let found = pairs::candidates_of(work, cx.layout.at, by, f, end, way);
+    Noted {
+        range: note_found(cx, work, f, found.count, r.range),
+        tally: found.tallied(r.tally),
+    }
 }
 
 // The faces of cell c, in order, where no cell is marked; each is counted.
 pub fn note_cell(
-    coords: &[f64],
-    tol: f64,
+    cx: &Context,
     work: &mut [u32],
-    l: layout::Layout,
-    by: index::Places,
+    by: Places,
     c: usize,
-    by_nodes: bool,
+    way: Way,
     tally: seek::Tally,
 ) -> Noted
-    requires standing { Standing l work.old }
-    requires c_bound { (c < l.at.cell_count) × (l.at.nodes ≡ node_count coords.now) × Keyed l.at by (base l.at work.old) }
+    requires standing { Standing cx.now.layout work.old }
+    requires c_bound { (c < cx.now.layout.at.cell_count) × Keyed cx.now.layout.at by (base cx.now.layout.at work.old) }
     requires nodes_bound { (tally.nodes ≤ 2 ^ 20) × (tally.triples ≤ 2 ^ 20) }
-    ensures marked { Marked l (input l.at work.old) (cell_hits (plain_rules coords.now tol) l (input l.at work.old) c) work.new result.range }
-    ensures beside { Beside l.at.found l work.old work.new × (result.range.hi ≤ l.at.cell_count) }
-    ensures tallied_more { TalliedMore by_nodes (face_count l (input l.at work.old) c) tally result.tally }
+    ensures marked { Marked cx.now.layout (input cx.now.layout.at work.old) (cell_hits (plain_rules cx.now.coords.now cx.now.tolerance) cx.now.layout (input cx.now.layout.at work.old) c) work.new result.range }
+    ensures beside { Beside cx.now.layout.at.found cx.now.layout work.old work.new × (result.range.hi ≤ cx.now.layout.at.cell_count) }
+    ensures tallied_more { TalliedMore (by_nodes way) (face_count cx.now.layout (input cx.now.layout.at work.old) c) tally result.tally }
 {
-    let at = l.at;
-    let first = layout::first_face(work, l, c);
-    let end = layout::first_face(work, l, c + 1);
+    let layout = &cx.layout;
+    let faces = Tables { work, layout }.faces(c);
     let none = Range {
-        lo: at.cell_count,
+        lo: layout.at.cell_count,
         hi: 0,
-        count: 0,
+        listed: Some(0),
     };
     let mut s = Noted { range: none, tally };
-    for f in first..end {
-        s = note_face(coords, tol, work, l, by, f, end, by_nodes, s);
+    for f in faces.start..faces.end {
+        s = note_face(cx, work, by, f, faces.end, way, s);
     }
     s
 }

@@ -11,6 +11,8 @@ ghost use Rattle.merge.specs.Runs.{rest, Ends};
 ghost use Rattle.seek.specs.Candidates.{common, shares, Ready, Sought, went_by_nodes, SoughtBy, TalliedMore};
 ghost use Rattle.seek.specs.Steps.{Runs, Hidden, Rising, AllRising, Passed, Begun, one, apart};
 
+use index::Index;
+
 // The two ways of seeking candidates: by common nodes, or by node triples.
 #[derive(Clone, Copy, Debug, PartialEq, Eq)]
 pub enum Way {
@@ -51,30 +53,8 @@ impl Searched {
     }
 }
 
-// The runs of a merge: how many, and where each stands and ends.
-#[derive(Clone, Copy)]
-struct Merge {
-    count: usize,
-    from: [usize; 64],
-    to: [usize; 64],
-}
-
-// Opens a run for each node of face lo: its list in the index.
-fn open_runs(ix: &index::Index, lo: usize, runs: &mut Merge)
-    requires { lo < ix.now.at.faces }
-    ensures count_after { runs.new.count ≡ length (set_of ix.now lo) }
-    ensures from_after { runs.new.from ≡ sets runs.old.from 0 (map (λ n. ix.now.at.index + below n (words_of ix.now.at (input_of ix.now))) (set_of ix.now lo)) }
-    ensures to_after { runs.new.to ≡ sets runs.old.to 0 (map (λ n. ix.now.at.index + below (n + 1) (words_of ix.now.at (input_of ix.now))) (set_of ix.now lo)) }
-{
-    let s = ix.set_start(lo);
-    let k = ix.set_size(lo);
-    runs.count = k;
-    merge::places(ix.base, s, k, ix.at.offsets, ix.at.index, &mut runs.from);
-    merge::places(ix.base, s, k, ix.at.offsets + 1, ix.at.index, &mut runs.to);
-}
-
 // The test that is cheap: a later face of another cell, and neither cell is a bow-tie.
-pub fn is_apart(ix: &index::Index, lo: usize, g: usize) -> bool
+pub fn is_apart(ix: &Index, lo: usize, g: usize) -> bool
     requires { (lo < ix.now.at.faces) × (g < ix.now.at.faces) }
     ensures { result ≡ apart ix.now.at (input_of ix.now) lo g }
 {
@@ -92,26 +72,15 @@ pub fn is_apart(ix: &index::Index, lo: usize, g: usize) -> bool
 }
 
 // The node sets of two faces are equal.
-pub fn same_set(ix: &index::Index, lo: usize, g: usize) -> bool
+pub fn same_set(ix: &Index, lo: usize, g: usize) -> bool
     requires { (lo < ix.now.at.faces) × (g < ix.now.at.faces) }
     ensures { result ≡ eql (set_of ix.now lo) (set_of ix.now g) }
 {
-    let a = ix.set(lo);
-    let b = ix.set(g);
-    if a.len() != b.len() {
-        return false;
-    }
-    // a counted loop: with `a == b` the search by triples took a fifth longer on faces of six and twenty nodes
-    for i in 0..a.len() {
-        if a[i] != b[i] {
-            return false;
-        }
-    }
-    true
+    ascending::equal(ix.set(lo), ix.set(g))
 }
 
 // Face g, which has c nodes in common with lo, is a candidate.
-fn is_candidate(ix: &index::Index, lo: usize, g: usize, c: usize) -> bool
+fn is_candidate(ix: &Index, lo: usize, g: usize, c: usize) -> bool
     requires lo_lt_faces { (lo < ix.now.at.faces) × (g < ix.now.at.faces) }
     requires c_value { c ≡ length (common (set_of ix.now lo) (set_of ix.now g)) }
     ensures { result ≡ shares ix.now.at (input_of ix.now) lo g }
@@ -143,7 +112,7 @@ fn take_face(
     work: &mut [u32],
     at: index::Places,
     lo: usize,
-    runs: &mut Merge,
+    runs: &mut merge::Runs,
     n: usize,
     g: usize,
 ) -> usize
@@ -154,29 +123,24 @@ fn take_face(
     ensures work_after { work.new ≡ sets work.old (at.found + n) (one at (input at work.old) lo g) }
     ensures runs_2 { Runs at (base at work.old) lo runs.new.count (g + 1) runs.new.from runs.new.to }
 {
-    let found = at.found;
-    let ix = index::Index {
-        base: &work[..found],
-        at: at,
-    };
-    let c = merge::pass(ix.base, runs.count, &mut runs.from, &runs.to, g);
+    let ix = Index::new(work, at);
+    let c = runs.pass(ix.base, g);
     let wanted = is_candidate(&ix, lo, g, c);
-    note(work, found, n, wanted, g)
+    note(work, at.found, n, wanted, g)
 }
 
 // The runs of lo's nodes merged, and the candidates noted; answers how many there are.
-fn merge_runs(work: &mut [u32], at: index::Places, lo: usize, runs: &mut Merge) -> usize
+fn merge_runs(work: &mut [u32], at: index::Places, lo: usize, runs: &mut merge::Runs) -> usize
     requires ready { Ready at lo work.old }
     requires begun { Begun at work.old lo runs.old.count runs.old.from runs.old.to }
     ensures { Sought at lo work.old work.new result }
 {
-    let found = at.found;
     let mut n = 0;
-    let mut g = merge::lowest(&work[..found], runs.count, &runs.from, &runs.to, at.faces);
+    let mut g = runs.lowest(&work[..at.found], at.faces);
     // no `for`: the next face is the lowest that any run has next
     while g < at.faces {
         n = take_face(work, at, lo, runs, n, g);
-        g = merge::lowest(&work[..found], runs.count, &runs.from, &runs.to, at.faces);
+        g = runs.lowest(&work[..at.found], at.faces);
     }
     n
 }
@@ -195,7 +159,7 @@ fn skip_run(base: &[u32], x: usize, e: usize, end: usize) -> usize
 }
 
 // Each run, which ascends, goes on to its first number that is not below `end`.
-fn skip_runs(base: &[u32], runs: &mut Merge, end: usize)
+fn skip_runs(base: &[u32], runs: &mut merge::Runs, end: usize)
     requires ends { Ends runs.old.count runs.old.to base.now }
     requires rising { AllRising runs.old.count base.now runs.old.from runs.old.to }
     ensures passed { Passed runs.old.count end base.now runs.old.from runs.new.from runs.old.to }
@@ -206,6 +170,21 @@ fn skip_runs(base: &[u32], runs: &mut Merge, end: usize)
     }
 }
 
+// The candidates of face lo, of which none is before `end`; answers how many there are.
+fn seek(work: &mut [u32], at: index::Places, lo: usize, end: usize) -> usize
+    requires ready { Ready at lo work.old }
+    requires end_le_faces { (end ≤ at.faces) × Hidden at (input at work.old) lo end }
+    ensures { Sought at lo work.old work.new result }
+{
+    let ix = Index::new(work, at);
+    if ix.bow_at(lo) {
+        return 0;
+    }
+    let mut runs = merge::Runs::open(ix.base, ix.set(lo), ix.at.offsets, ix.at.index);
+    skip_runs(ix.base, &mut runs, end);
+    merge_runs(work, at, lo, &mut runs)
+}
+
 // By common nodes: a merge of the lists of lo's nodes, in which a face comes as often as it has one of them.
 // It begins at face `end`, before which none is a candidate. None where lo's cell is a bow-tie.
 pub fn seek_by_nodes(work: &mut [u32], at: index::Places, lo: usize, end: usize) -> Searched
@@ -213,26 +192,8 @@ pub fn seek_by_nodes(work: &mut [u32], at: index::Places, lo: usize, end: usize)
     requires end_le_faces { (end ≤ at.faces) × Hidden at (input at work.old) lo end }
     ensures { SoughtBy true at lo work.old work.new result }
 {
-    let found = at.found;
-    let ix = index::Index {
-        base: &work[..found],
-        at: at,
-    };
-    if ix.bow_at(lo) {
-        return Searched {
-            way: Way::ByNodes,
-            count: 0,
-        };
-    }
-    let mut runs = Merge {
-        count: 0,
-        from: [0; 64],
-        to: [0; 64],
-    };
-    open_runs(&ix, lo, &mut runs);
-    skip_runs(ix.base, &mut runs, end);
     Searched {
         way: Way::ByNodes,
-        count: merge_runs(work, at, lo, &mut runs),
+        count: seek(work, at, lo, end),
     }
 }

@@ -13,11 +13,13 @@ use Rattle.laws.proofs.ListLaws.{any_append, each_append, keep-length}
 use Rattle.laws.proofs.Tests.{tested}
 use Rattle.laws.proofs.Ascending.{keep_none}
 use Rattle.index.specs.declared.Places.{Places}
+use Rattle.index.specs.declared.by_node.Index.{Index}
+use Rattle.index.specs.Read.{input_of, set_of}
 use Rattle.index.specs.Faces.{input, base, start_of, nodes_of, Indexed}
 use Rattle.merge.specs.Runs.{rest}
 use Rattle.seek.specs.Candidates.{common, shares, candidates, Ready, Sought}
 use Rattle.seek.proofs.Searching.{input_base}
-use Rattle.index.proofs.Read.{set-fits, set_there, read_node, node_low}
+use Rattle.index.proofs.Read.{of_index, set-fits, set_there, read_node, node_low}
 use Rattle.triple_keys.specs.Keys.{keys_of, Keyed}
 use Rattle.triples.specs.Hits.{hits_by, add_all, Open, Added, Beside, Known, NodesAt, AddedRare}
 use Rattle.triples.proofs.ShareKey.{Short, share_key}
@@ -36,9 +38,10 @@ keyed_beside p q b k = record { indexed = k.indexed; found = k.found; faces = k.
 pub self_beside : (p : Places) (b : List ℕ) → Indexed p b → Beside p p b
 self_beside p b ix = record { indexed = ix; found = refl; faces = refl }
 
--- where the nodes of lo, or its keys, stand
-pub nodes_at : (q : Places) (b : List ℕ) (lo x n : ℕ) → x ≡ q.sets + start_of q (input q b) lo → n ≡ length (nodes_of q (input q b) lo) → NodesAt q b lo x (x + n)
-nodes_at q b lo x n is_x is-n = record { start = is_x; end = ap (λ (k : ℕ). x + k) is-n }
+-- where the nodes of lo, or its keys, stand, as an index tells
+pub nodes_at : {p : Places} {b : List ℕ} (i : Index) → (i.base.now ≡ b) × (i.at ≡ p) → (lo x n : ℕ) → x ≡ i.at.sets + start_of i.at (input_of i) lo → n ≡ length (set_of i lo)
+    → NodesAt p b lo x (x + n)
+nodes_at i same lo x n is-x is-n = of_index i (λ q l. NodesAt q l lo x (x + n)) same (record { start = is-x; end = ap (λ (k : ℕ). x + k) is-n })
 
 module _ (p : Places) (b : List ℕ) (ix : Indexed p b) (lo s e : ℕ) (face : lo < p.faces) (at : NodesAt p b lo s e) where
   -- the nodes of lo, or its keys, are those words

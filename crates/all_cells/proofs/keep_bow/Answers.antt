@@ -5,7 +5,7 @@ use mathlib.Core.Path.{sym, ◌∙◌, subst}
 use native.Mathlib.Omega.{arith}
 use lib.Ieee.{of_bits}
 use Rattle.findings.specs.Findings.{Finding, bowtie}
-use Rattle.index.specs.Faces.{input}
+use Rattle.layout.specs.Views.{faced_in}
 use Rattle.layout.proofs.Reading.{word_is}
 use Rattle.records.specs.Keeping.{Kept}
 use Rattle.records.proofs.Keeping.{kept_none}
@@ -15,12 +15,12 @@ use Rattle.all_cells.specs.Cells.{KeptEver}
 use Rattle.all_cells.proofs.Passing.{bow_none, bow_one, bow_fields, bow_centre}
 use Rattle.all_cells.proofs.keep_bow.Goals as goal
 
-pub returns-then-work-b-eq0 : goal.returns-then-work-b-eq0
-returns-then-work-b-eq0 c =
+pub returns-then-t-b-eq0 : goal.returns-then-t-b-eq0
+returns-then-t-b-eq0 c =
     let a = c.args in
-    let w = a.work.now in
-    let is = word_is a.l w c.requires.faced (a.l.at.bows + a.c) (omega (arith, c.requires.faced.laid.bows_at, c.requires.c_bound.0)) in
-    let none = bow_none a.l (input a.l.at w) a.c (sym is ∙ c.if-work-b-eq0.true) in
+    let w = a.t.now.work.now in
+    let is = word_is a.t.now.layout.now w a.t.now.faced (a.t.now.layout.now.at.bows + a.c) (omega (arith, a.t.now.faced.laid.bows_at, c.requires.c_bound.0)) in
+    let none = bow_none a.t.now.layout.now (faced_in a.t.now) a.c (sym is ∙ c.if-t-b-eq0.true) in
     record {
       kept_ever = λ R. subst (λ (xs : List Finding). Kept R xs a.sink.now a.sink.now) (sym none) (kept_none R a.sink.now);
       upper_bound = omega arith;
@@ -30,9 +30,9 @@ pub returns : goal.returns
 unfolding of_bits
 returns c =
     let a = c.args in
-    let w = a.work.now in
-    let is = word_is a.l w c.requires.faced (a.l.at.bows + a.c) (omega (arith, c.requires.faced.laid.bows_at, c.requires.c_bound.0)) in
-    let one = bow_one a.l (input a.l.at w) a.c (λ z. c.if-work-b-eq0.false (is ∙ z)) in
+    let w = a.t.now.work.now in
+    let is = word_is a.t.now.layout.now w a.t.now.faced (a.t.now.layout.now.at.bows + a.c) (omega (arith, a.t.now.faced.laid.bows_at, c.requires.c_bound.0)) in
+    let one = bow_one a.t.now.layout.now (faced_in a.t.now) a.c (λ z. c.if-t-b-eq0.false (is ∙ z)) in
     let y = c.keep in
     let kept : KeptEver (bowtie a.c ∷ []) a.sink.now y.new.self = λ R. y.ensures R (bowtie a.c) (bow_fields a.c) (bow_centre R a.c) in
     record {

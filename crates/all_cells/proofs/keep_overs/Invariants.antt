@@ -7,6 +7,6 @@ use Rattle.all_cells.proofs.keep_overs.Given as goal
 
 abbrev pub invariant-loop-c : goal.invariant-loop-c
 invariant-loop-c l = record {
-  kept : KeptAny l.coords (each (over_cell l.l (input l.l.at l.work)) (up_from 0 l.c)) l.initial.sink l.sink;
+  kept : KeptAny l.cx.coords.now (each (over_cell l.cx.layout (input l.cx.layout.at l.work)) (up_from 0 l.c)) l.initial.sink l.sink;
   few : l.sink.count ≤ l.initial.sink.count + 262144 * l.c;
 }

@@ -17,7 +17,7 @@ returns-then-not-intersects c =
     let m = lent a.model.now.model in
     let off : intersects m.flags 3 ≡ false = sym c.intersects.ensures ∙ c.if-not-intersects.true in
     let none = nothing_asked m a.model.now.accepted off in
-    let u = c.unsought in record {
+    let u = c.default in record {
       kept_by = none_kept m a.sink.now none;
       tallied = tallied_zero (goes_by_nodes a.choice m) (asks_no_pairs m (ap (λ n. contains n TOPOLOGY) none)) u.result u.ensures.0 u.ensures.1;
     }
@@ -27,11 +27,11 @@ pub returns-then-not-contains : goal.returns-then-not-contains
 returns-then-not-contains c =
     let a = c.args in
     let m = lent a.model.now.model in
-    let t = c.build_tables-l in
+    let t = c.build_tables-layout in
     let y = c.find_butterflies in
     let v = input t.result.at t.new.work in
     let off : contains m.flags TOPOLOGY ≡ false = sym c.contains.ensures ∙ c.if-not-contains.true in
-    let u = c.unsought-then-not-contains in record {
+    let u = c.default-then-not-contains in record {
       kept_by = all_first m t.result v t.ensures.shows a.sink.now y.new.sink y.ensures.kept_ever off;
       tallied = tallied_zero (goes_by_nodes a.choice m) (asks_no_pairs m off) u.result u.ensures.0 u.ensures.1;
     }
@@ -40,7 +40,7 @@ pub returns : goal.returns
 returns c =
     let a = c.args in
     let m = lent a.model.now.model in
-    let t = c.build_tables-l in
+    let t = c.build_tables-layout in
     let y = c.find_butterflies in
     let z = c.find_topology in
     let v = input t.result.at t.new.work in

@@ -1,7 +1,8 @@
 -- `full_list::find_topology` meets its contract.
-use mathlib.Core.Path.{◌≡◌, sym, ◌∙◌, subst}
+use mathlib.Core.Path.{sym, ◌∙◌, subst}
 use Rattle.mesh.specs.Lent.{lent}
 use Rattle.index.specs.Faces.{input}
+use Rattle.seek.specs.Candidates.{by_nodes}
 use Rattle.seek.proofs.Tallies.{tallied_as}
 use Rattle.layout.specs.Shown.{Shows}
 use Rattle.shown.proofs.Candidates.{faces_shown}
@@ -12,17 +13,16 @@ use Rattle.full_list.proofs.Ways.{way_is}
 use Rattle.full_list.proofs.Whole.{three_kept}
 use Rattle.full_list.proofs.find_topology.Goals as goal
 
-pub keep_repeats-requires-clause-nodes_value : goal.keep_repeats-requires-clause-nodes_value
-keep_repeats-requires-clause-nodes_value c =
+pub keep_repeats-requires-clause-cells : goal.keep_repeats-requires-clause-cells
+keep_repeats-requires-clause-cells c =
     let a = c.args in
-    let m = lent a.model.now.model in
     let r = c.requires.ready in
-    (r.built.shows.nodes, cells_in m a.l (input a.l.at a.work.now) r.accepted r.built.shows)
+    cells_in (lent a.model.now.model) a.layout (input a.layout.at a.work.now) r.accepted r.built.shows
 
 pub returns : goal.returns
 returns c =
     let a = c.args in
-    let l = a.l in
+    let l = a.layout in
     let m = lent a.model.now.model in
     let built = c.requires.ready.built in
     let x = c.index_faces-s in
@@ -36,7 +36,7 @@ returns c =
     let h = y.new.sink in
     let i = z.new.sink in
     let e = r.new.sink in
-    let way = c.by_nodes-by_nodes.ensures ∙ way_is m l (input l.at a.work.now) built.tabled.faced built.shows a.choice x.result.by_nodes x.ensures.by_nodes_value in record {
+    let way = c.way-way.ensures ∙ way_is m l (input l.at a.work.now) built.tabled.faced built.shows a.choice (by_nodes x.result.way) x.ensures.way_value in record {
       kept_by =
           three_kept m f h i e
           (overs_kept m l (input l.at v) S1 f h y.ensures.kept_any)

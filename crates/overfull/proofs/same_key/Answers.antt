@@ -8,4 +8,4 @@ use Rattle.overfull.proofs.same_key.Goals as goal
 
 pub returns : goal.returns
 unfolding same_as
-returns c = c.eq.ensures ∙ ap₂ (λ (x y : List ℕ). eql x y) c.key-a.ensures c.key-b.ensures
+returns c = c.equal.ensures ∙ ap₂ (λ (x y : List ℕ). eql x y) c.key.ensures c.key-2.ensures

@@ -15,8 +15,8 @@ keep_sorted-requires c =
     let y = c.sort_pairs in
     let u = y.new.work in
     record {
-      searching = sorted_search a.l w a.count c.requires.searching q.1 u y.ensures;
-      c_bound = (q.0, q.1, q.2, sorted_fit a.l w a.count c.requires.searching q.1 u y.ensures q.3, sorted_listed a.l w a.count c.requires.searching q.1 u y.ensures q.4, sorted_rising a.l w a.count c.requires.searching q.1 u y.ensures);
+      searching = sorted_search a.cx.now.layout w a.count c.requires.searching q.1 u y.ensures;
+      c_bound = (q.0, q.1, sorted_fit a.cx.now.layout w a.count c.requires.searching q.1 u y.ensures q.2, sorted_listed a.cx.now.layout w a.count c.requires.searching q.1 u y.ensures q.3, sorted_rising a.cx.now.layout w a.count c.requires.searching q.1 u y.ensures);
       few = c.requires.few;
     }
 
@@ -29,6 +29,6 @@ returns c =
     let z = c.keep_sorted in
     let u = y.new.work in
     record {
-      kept_any = λ tol. subst (λ (xs : List Finding). Kept (plain_rules a.coords.now tol) xs a.sink.now z.new.sink) (sorted_tells a.l w a.count c.requires.searching h u y.ensures a.c) (z.ensures.kept_any tol);
-      cleared = (sorted_cleared a.l w a.count c.requires.searching h u y.ensures z.new.work z.ensures.cleared.0, z.ensures.cleared.1);
+      kept_any = λ tol. subst (λ (xs : List Finding). Kept (plain_rules a.cx.now.coords.now tol) xs a.sink.now z.new.sink) (sorted_tells a.cx.now.layout w a.count c.requires.searching h u y.ensures a.c) (z.ensures.kept_any tol);
+      cleared = (sorted_cleared a.cx.now.layout w a.count c.requires.searching h u y.ensures z.new.work z.ensures.cleared.0, z.ensures.cleared.1);
     }

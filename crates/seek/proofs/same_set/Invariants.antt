@@ -1,7 +1,0 @@
-use mathlib.Core.Path.{◌≡◌}
-use lib.ListN.{drop}
-use Rattle.laws.specs.Lists.{eql}
-use Rattle.seek.proofs.same_set.Given as goal
-
-abbrev pub invariant-loop-i : goal.invariant-loop-i
-invariant-loop-i l = eql l.a l.b ≡ eql (drop l.i l.a) (drop l.i l.b)
