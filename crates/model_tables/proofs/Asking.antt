@@ -14,6 +14,7 @@ use Rattle.mesh.specs.Steps.{ring_total, Tallied}
 use Rattle.faces.specs.Spans.{rings_in}
 use Rattle.layout.specs.declared.Layout.{Layout}
 use Rattle.layout.specs.Tables.{Ringed}
+use Rattle.node_sets.specs.Sets.{TablesFit}
 use Rattle.model_tables.proofs.Contents.{Settled, RingTables, Marked}
 use Rattle.model_tables.proofs.Stages.{rings_stand}
 use Rattle.model_tables.proofs.Building.{cells, kinds_are_lem, few, room}
@@ -89,11 +90,17 @@ module _ (m : Model) (ok : model_refusal m ≡ 0) where
         (rings_stand m.coords m.tolerance (cells m ok) (length m.words) K l s w inside.bows b, omega arith, s.planned.many_nodes, omega arith)
 
     -- the keys and node sets
-    pub asks_nodes : Marked m.coords m.tolerance (cells m ok) l w
-        → Ringed l (take l.at.bows w) × (l.at.bows ≤ l.keys) × (l.keys + l.total ≤ l.at.starts) × (l.at.starts + (l.at.faces + 1) ≤ l.at.sets) × (l.at.sets + l.total ≤ length w) × (l.total < 2 ^ 32)
+    pub asks_nodes : Marked m.coords m.tolerance (cells m ok) l w → TablesFit l w
     asks_nodes b =
         let e = within in
-        (rings_stand m.coords m.tolerance (cells m ok) (length m.words) K l s w inside.bows b.rings, omega arith, omega arith, omega arith, omega arith, omega (arith, (few m ok).total))
+        record {
+          ringed = rings_stand m.coords m.tolerance (cells m ok) (length m.words) K l s w inside.bows b.rings;
+          keys_at = omega arith;
+          starts_at = omega arith;
+          sets_at = omega arith;
+          ends = omega arith;
+          small = omega (arith, (few m ok).total);
+        }
 
     -- the zeros
     pub asks_zeros : (l.marks + l.at.cell_count ≤ length w) × (l.last + l.at.nodes ≤ length w)

@@ -4,12 +4,11 @@ use mathlib.Core.Path.{◌≡◌, refl, sym, ap, ◌∙◌, subst}
 use mathlib.Core.List.{List, map}
 use native.Mathlib.Nat.{le_trans}
 use native.Mathlib.Omega.{arith}
-use lib.Dec.{leb}
 use lib.Ieee.{Float}
 use lib.ListN.{length, replicate, length-replicate}
 use lib.Seq.{sets, length-sets, length-take-le}
-use Rattle.laws.specs.Lists.{each, sort}
-use Rattle.laws.specs.Merging.{region, starts_of, AllBelow}
+use Rattle.laws.specs.Lists.{each}
+use Rattle.laws.specs.Merging.{AllBelow}
 use Rattle.laws.proofs.Members.{below-distinct}
 use Rattle.geometry.specs.Coordinates.{node_count}
 use Rattle.mesh.specs.Model.{Model, Raw, cells_of}
@@ -30,20 +29,57 @@ use Rattle.findings.specs.Rules.{rules_of, rules_with}
 use Rattle.index.specs.Faces.{input, Room}
 use Rattle.layout.specs.declared.Layout.{Layout}
 use Rattle.layout.specs.Tables.{Spaced}
-use Rattle.layout.specs.ByCell.{bit}
 use Rattle.layout.specs.Shown.{Shows, Built}
-use Rattle.tables.specs.Owners.{owners_from}
 use Rattle.tables.proofs.Lengths.{cells_small}
-use Rattle.tables.proofs.Shown.{joined}
 use Rattle.model_tables.specs.Planned.{Planned}
 use Rattle.model_tables.proofs.Sizes.{sized_cells, sized_many, sets_total}
-use Rattle.model_tables.proofs.Reading.{holds_put, holds_before, holds_at, holds_long}
-use Rattle.model_tables.proofs.Contents.{meets, Settled, RingTables, FaceTables, Tabled, Cleared}
+use Rattle.model_tables.proofs.Reading.{holds_put, holds_before, holds_long}
+use Rattle.model_tables.proofs.Contents.{Settled, RingTables, FaceTables, Tabled, Cleared}
 use Rattle.model_tables.proofs.Ringing.{welds_held, first_at}
 use Rattle.model_tables.proofs.Facing.{bow_read, faces_are_lem as faces_shown, faced}
 use Rattle.model_tables.proofs.Stages.{rings_part, faces_part, tables_still}
 
+-- the places with N words of node sets
+abbrev pub sized : Layout → ℕ → Layout
+sized l N = record l { at = record l.at { words = N } }
+
 module _ (coords : List Float) (tol : Float) (cells : List Raw) (M K : ℕ) (l : Layout) (s : Settled coords cells M K l) where
+  -- where that number is another, all else is as before
+  pub settled_again : (N : ℕ) → Settled coords cells M N (sized l N)
+  settled_again N =
+      let p = s.planned in
+      record {
+        well = s.well;
+        below = s.below;
+        used = s.used;
+        planned = record {
+          many_total = p.many_total;
+          many_faces = p.many_faces;
+          many_cells = p.many_cells;
+          many_nodes = p.many_nodes;
+          many_words = p.many_words;
+          many_sets = refl;
+          weld_at = p.weld_at;
+          rings_at = p.rings_at;
+          rows_at = p.rows_at;
+          firsts_at = p.firsts_at;
+          bows_at = p.bows_at;
+          cells_at = p.cells_at;
+          keys_at = p.keys_at;
+          starts_at = p.starts_at;
+          sets_at = p.sets_at;
+          offsets_at = p.offsets_at;
+          index_at = p.index_at;
+          second_at = p.second_at;
+          found_at = p.found_at;
+          marks_at = p.marks_at;
+          others_at = p.others_at;
+          last_at = p.last_at;
+          pairs_at = p.pairs_at;
+          spare_at = p.spare_at;
+        };
+      }
+
   -- zeros put behind the tables
   pub zeros_put : (w v : List ℕ) → l.pairs ≤ length w → Tabled coords tol cells l w → v ≡ sets (sets w l.marks (replicate l.at.cell_count 0)) l.last (replicate l.at.nodes 0) → Cleared coords tol cells l v
   zeros_put w v h k e =
@@ -60,36 +96,18 @@ module _ (coords : List Float) (tol : Float) (cells : List Raw) (M K : ℕ) (l :
         fresh = holds_long v l.last l.at.nodes y (sym ny) (holds_put a v l.last y (omega arith) e);
       }
 
-  -- the same tables, under places that differ in the number of words of node sets alone
-  pub placed_again : (N : ℕ) (q : Layout) → Settled coords cells M N q → (w : List ℕ) → Cleared coords tol cells l w → Cleared coords tol cells q w
-  placed_again N q z w k =
-      let a = s.planned in
-      let b = z.planned in
-      let n : l.at.cell_count ≡ q.at.cell_count = omega arith in
-      let o : l.at.nodes ≡ q.at.nodes = omega arith in
-      let x : l.marks ≡ q.marks = omega arith in
-      let y : l.last ≡ q.last = omega arith in
-      let rs = each rings_of cells in
+  -- the same tables, where the number of words of node sets is known
+  pub placed_again : (N : ℕ) (w : List ℕ) → Cleared coords tol cells l w → Cleared coords tol cells (sized l N) w
+  placed_again N w k =
       let r = k.tables.rings in
       let f = k.tables.faces in
       record {
         tables = record {
-          rings = record {
-            welds = holds_at w l.weld q.weld (welded_used coords tol cells) (omega arith) r.welds;
-            rings = holds_at w l.rings q.rings (joined rs) (omega arith) r.rings;
-            rows = holds_at w l.rows q.rows (starts_of 0 rs) (omega arith) r.rows;
-            firsts = holds_at w l.firsts q.firsts (starts_of 0 (map rings_of cells)) (omega arith) r.firsts;
-          };
-          faces = record {
-            bows = holds_at w l.at.bows q.at.bows (map (λ c. bit (meets coords tol cells c)) cells) (omega arith) f.bows;
-            owners = holds_at w l.at.cells q.at.cells (owners_from 0 cells) (omega arith) f.owners;
-            keys = holds_at w l.keys q.keys (joined (map (sort leb) rs)) (omega arith) f.keys;
-            starts = holds_at w l.at.starts q.at.starts (starts_of 0 (map node_set rs)) (omega arith) f.starts;
-            sets = holds_at w l.at.sets q.at.sets (joined (map node_set rs)) (omega arith) f.sets;
-          };
+          rings = record { welds = r.welds; rings = r.rings; rows = r.rows; firsts = r.firsts };
+          faces = record { bows = f.bows; owners = f.owners; keys = f.keys; starts = f.starts; sets = f.sets };
         };
-        unmarked = subst (λ (i : ℕ). region q.marks i w ≡ replicate i 0) n (subst (λ (i : ℕ). region i l.at.cell_count w ≡ replicate l.at.cell_count 0) x k.unmarked);
-        fresh = subst (λ (i : ℕ). region q.last i w ≡ replicate i 0) o (subst (λ (i : ℕ). region i l.at.nodes w ≡ replicate l.at.nodes 0) y k.fresh);
+        unmarked = k.unmarked;
+        fresh = k.fresh;
       }
 
 module _ (m : Model) (ok : model_refusal m ≡ 0) where

@@ -1,5 +1,5 @@
 -- The keys put where there is room for them and the node sets.
-use Prim.Native.Nat.{ℕ, ◌+◌, ◌≤◌, ◌<◌, ◌^◌}
+use Prim.Native.Nat.{ℕ}
 use mathlib.Core.Path.{◌≡◌, sym, ap, ◌∙◌, subst}
 use mathlib.Core.List.{List}
 use native.Mathlib.Omega.{arith}
@@ -10,10 +10,10 @@ use Rattle.laws.specs.Merging.{region, starts_of}
 use Rattle.laws.proofs.Stores.{take_before, region_same}
 use Rattle.layout.specs.declared.Layout.{Layout}
 use Rattle.layout.specs.Tables.{Ringed}
-use Rattle.node_sets.specs.Sets.{keys_of, sets_from, Keyed}
+use Rattle.node_sets.specs.Sets.{keys_of, sets_from, TablesFit, Keyed}
 use Rattle.node_sets.proofs.Keys.{keys_long}
 
-module _ (l : Layout) (w v : List ℕ) (p : Ringed l (take l.at.bows w) × (l.at.bows ≤ l.keys) × (l.keys + l.total ≤ l.at.starts) × (l.at.starts + (l.at.faces + 1) ≤ l.at.sets) × (l.at.sets + l.total ≤ length w) × (l.total < 2 ^ 32)) (put : v ≡ sets w l.keys (keys_of l (take l.at.bows w) l.at.faces)) where
+module _ (l : Layout) (w v : List ℕ) (p : TablesFit l w) (put : v ≡ sets w l.keys (keys_of l (take l.at.bows w) l.at.faces)) where
   -- the tables of rings
   abbrev t : List ℕ
   t = take l.at.bows w
@@ -24,26 +24,28 @@ module _ (l : Layout) (w v : List ℕ) (p : Ringed l (take l.at.bows w) × (l.at
 
   -- the tables before the keys are as before
   same : take l.at.bows v ≡ t
-  same = ap (take l.at.bows) put ∙ take_before l.at.bows w l.keys keys p.1
+  same = ap (take l.at.bows) put ∙ take_before l.at.bows w l.keys keys p.keys_at
 
   -- there are as many words of keys as of rings
   long : length keys ≡ l.total
-  long = keys_long l t p.0 l.at.faces (omega arith) ∙ p.0.row_last
+  long = keys_long l t p.ringed l.at.faces (omega arith) ∙ p.ringed.row_last
 
   -- the keys stand
   pub keys_stand : Keyed l v
   keys_stand =
       record {
-        ringed = subst (Ringed l) (sym same) p.0;
-        keys_at = p.1;
-        starts_at = p.2;
-        sets_at = p.3;
-        ends = omega (arith, p.4, ap length put, length-sets w l.keys keys);
-        small = p.5;
+        fit = record {
+          ringed = subst (Ringed l) (sym same) p.ringed;
+          keys_at = p.keys_at;
+          starts_at = p.starts_at;
+          sets_at = p.sets_at;
+          ends = omega (arith, p.ends, ap length put, length-sets w l.keys keys);
+          small = p.small;
+        };
         keyed =
             ap (λ (n : ℕ). region l.keys n v) (sym long)
             ∙ ap (region l.keys (length keys)) put
-            ∙ region_same w l.keys keys (omega (arith, long, p.2, p.3, p.4))
+            ∙ region_same w l.keys keys (omega (arith, long, p.starts_at, p.sets_at, p.ends))
             ∙ ap (λ (r : List ℕ). keys_of l r l.at.faces) (sym same);
       }
 

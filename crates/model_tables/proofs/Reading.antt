@@ -35,10 +35,6 @@ holds_take w n o xs h k = region-take o (length xs) n w h ∙ k
 pub holds_long : (t : List ℕ) (o n : ℕ) (xs : List ℕ) → n ≡ length xs → Holds t o xs → region o n t ≡ xs
 holds_long t o n xs e k = ap (λ (i : ℕ). region o i t) e ∙ k
 
--- the same list at another name of its place
-pub holds_at : (t : List ℕ) (o p : ℕ) (xs : List ℕ) → o ≡ p → Holds t o xs → Holds t p xs
-holds_at t o p xs e k = ap (λ (i : ℕ). region i (length xs) t) (sym e) ∙ k
-
 -- a region copied to the front stands there
 pub copied : (w v : List ℕ) (a n : ℕ) → a + n ≤ length w → v ≡ sets w 0 (region a n w) → region 0 n v ≡ region a n w
 copied w v a n h e =

@@ -16,28 +16,18 @@ ghost use Rattle.welding.specs.Used.{welds_of};
 ghost use Rattle.layout.specs.Tables.{Ringed};
 ghost use Rattle.layout.specs.ByCell.{cell_bow, bit};
 ghost use Rattle.layout.specs.Shown.{Built};
-ghost use Rattle.node_sets.specs.Sets.{keys_of, sets_from};
+ghost use Rattle.node_sets.specs.Sets.{keys_of, sets_from, TablesFit};
 ghost use Rattle.tables.specs.Owners.{owners_from};
 ghost use Rattle.model_tables.specs.Planned.{Searched, Planned};
 
 use layout::{Context, Layout};
 use mesh::Accepted;
 
-// Where the regions of the scratch start.
-#[derive(Clone, Copy)]
-pub struct Scratch {
-    pub marks: usize,
-    pub others: usize,
-    pub last: usize,
-    pub pairs: usize,
-    pub spare: usize,
-}
-
 // The places of the tables of the pair search, from `bows` on, with the keys between them, and room for the second index before `found`;
 // see `plan`.
-fn plan_search(r: usize, f: usize, c: usize, n: usize, k: usize, bows: usize) -> index::Places
+fn plan_search(r: usize, f: usize, c: usize, n: usize, bows: usize) -> index::Places
     requires { (r < 2 ^ 32) × (f < 2 ^ 32) × (c < 2 ^ 32) × (n < 2 ^ 32) × (bows < 2 ^ 36) }
-    ensures searched { Searched r f c n k bows result }
+    ensures searched { Searched r f c n 0 bows result }
     ensures cells_bound { (result.cells < 2 ^ 40) × (result.index < 2 ^ 40) × (result.found < 2 ^ 40) }
 {
     let cells = bows + c;
@@ -48,68 +38,45 @@ fn plan_search(r: usize, f: usize, c: usize, n: usize, k: usize, bows: usize) ->
     index::Places {
         faces: f,
         nodes: n,
-        words: k,
+        words: 0,
         cell_count: c,
-        cells: cells,
-        bows: bows,
-        starts: starts,
-        sets: sets,
-        offsets: offsets,
-        index: index,
+        cells,
+        bows,
+        starts,
+        sets,
+        offsets,
+        index,
         found: index + r + (f + 1 + r + (n + r + 3) + r),
     }
 }
 
-// A place b words behind a.
-fn behind(a: usize, b: usize) -> usize
-    requires { (a < 2 ^ 40) × (b < 2 ^ 32) }
-    ensures { result ≡ a + b }
-{
-    a + b
-}
-
-// The places of the scratch, behind `found`.
-fn plan_scratch(found: usize, f: usize, c: usize, n: usize, m: usize) -> Scratch
-    requires { (found < 2 ^ 40) × (f < 2 ^ 32) × (c < 2 ^ 32) × (n < 2 ^ 32) × (m < 2 ^ 32) }
-    ensures { (result.marks ≡ found + f) × (result.others ≡ result.marks + c) × (result.last ≡ result.others + c) × (result.pairs ≡ result.last + n) × (result.spare ≡ result.pairs + 2 * m) }
-{
-    let marks = found + f;
-    let others = marks + c;
-    let last = others + c;
-    let pairs = last + n;
-    Scratch {
-        marks: marks,
-        others: others,
-        last: last,
-        pairs: pairs,
-        spare: pairs + 2 * m,
-    }
-}
-
-// The places of all tables, for r ring words, f faces, c cells, n nodes, m words and k words of node sets.
-fn plan(r: usize, f: usize, c: usize, n: usize, m: usize, k: usize) -> Layout
+// The places of all tables, for r ring words, f faces, c cells, n nodes and m words, with no words of node sets yet.
+fn plan(r: usize, f: usize, c: usize, n: usize, m: usize) -> Layout
     requires { (r < 2 ^ 32) × (f < 2 ^ 32) × (c < 2 ^ 32) × (n < 2 ^ 32) × (m < 2 ^ 32) }
-    ensures { Planned r f c n m k result }
+    ensures { Planned r f c n m 0 result }
 {
     let rows = n + r;
     let firsts = rows + (f + 1);
-    let at = plan_search(r, f, c, n, k, firsts + (c + 1));
-    let s = plan_scratch(at.found, f, c, n, m);
+    let at = plan_search(r, f, c, n, firsts + (c + 1));
+    let marks = at.found + f;
+    let others = marks + c;
+    let last = others + c;
+    let pairs = last + n;
     Layout {
-        at: at,
+        at,
         total: r,
         words: m,
         weld: 0,
         rings: n,
-        keys: behind(at.cells, f),
-        rows: rows,
-        firsts: firsts,
-        second: behind(at.index, r),
-        marks: s.marks,
-        others: s.others,
-        last: s.last,
-        pairs: s.pairs,
-        spare: s.spare,
+        keys: at.cells + f,
+        rows,
+        firsts,
+        second: at.index + r,
+        marks,
+        others,
+        last,
+        pairs,
+        spare: pairs + 2 * m,
     }
 }
 
@@ -154,7 +121,7 @@ fn put_marks(model: &Accepted, work: &mut [u32], l: &Layout)
 
 // The keys and node sets of all faces; answers how many words the sets have.
 fn put_nodes(work: &mut [u32], l: &Layout) -> usize
-    requires { Ringed l.now (take l.now.at.bows work.old) × (l.now.at.bows ≤ l.now.keys) × (l.now.keys + l.now.total ≤ l.now.at.starts) × (l.now.at.starts + (l.now.at.faces + 1) ≤ l.now.at.sets) × (l.now.at.sets + l.now.total ≤ length work.old) × (l.now.total < 2 ^ 32) }
+    requires { TablesFit l.now work.old }
     ensures { (result ≡ length (each (λ s. s) (sets_from l.now (take l.now.at.bows work.old) 0 l.now.at.faces))) × (work.new ≡ sets (sets (sets work.old l.now.keys (keys_of l.now (take l.now.at.bows work.old) l.now.at.faces)) l.now.at.starts (starts_of 0 (sets_from l.now (take l.now.at.bows work.old) 0 l.now.at.faces))) l.now.at.sets (each (λ s. s) (sets_from l.now (take l.now.at.bows work.old) 0 l.now.at.faces))) }
 {
     node_sets::put_keys(work, l);
@@ -176,27 +143,17 @@ pub fn build_tables(model: &Accepted, work: &mut [u32]) -> Layout
     ensures { Built (lent model.now.model) result work.new }
 {
     let m = model.model;
-    let cells = m.kinds.len();
-    let nodes = m.node_count();
-    let l = plan(
+    let mut l = plan(
         model.ring_words,
         model.faces,
-        cells,
-        nodes,
+        m.kinds.len(),
+        m.node_count(),
         m.words.len(),
-        0,
     );
     put_weld(model, work);
     put_rings(model, work, &l);
     put_marks(model, work, &l);
-    let k = put_nodes(work, &l);
+    l.at.words = put_nodes(work, &l);
     clear_scratch(work, &l);
-    plan(
-        model.ring_words,
-        model.faces,
-        cells,
-        nodes,
-        m.words.len(),
-        k,
-    )
+    l
 }

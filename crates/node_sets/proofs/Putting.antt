@@ -27,19 +27,19 @@ module _ (l : Layout) (w : List ℕ) (f : Keyed l w) where
   pub keys_are : region l.keys (l.keys + l.total - l.keys) (take l.at.starts w) ≡ keys_of l t l.at.faces
   keys_are =
       let n : l.keys + l.total - l.keys ≡ l.total = omega arith in
-      ap (λ (k : ℕ). region l.keys k (take l.at.starts w)) n ∙ region-take l.keys l.total l.at.starts w f.starts_at ∙ f.keyed
+      ap (λ (k : ℕ). region l.keys k (take l.at.starts w)) n ∙ region-take l.keys l.total l.at.starts w f.fit.starts_at ∙ f.keyed
 
   module _ (g : ℕ) (h : g < l.at.faces) (a e : ℕ) (from : a ≡ get_or t (l.rows + g) 0) (to : e ≡ get_or t (l.rows + (g + 1)) 0) where
     -- the bounds of a row rise
     pub row_rises : a ≤ e
-    row_rises = omega (arith, f.ringed.rising g h, from, to)
+    row_rises = omega (arith, f.fit.ringed.rising g h, from, to)
 
     -- what stands between them, without its repeats, is the node set
     pub set_is : (keys : List ℕ) → keys ≡ keys_of l t l.at.faces → unique leb (region a (e - a) keys) ≡ node_set (ring_row l t g)
     set_is keys is =
         ap (λ (r : List ℕ). unique leb (region a (e - a) r)) is
         ∙ ap₂ (λ (x y : ℕ). unique leb (region x (y - x) (keys_of l t l.at.faces))) from to
-        ∙ ap (unique leb) (key_at l t f.ringed g h)
+        ∙ ap (unique leb) (key_at l t f.fit.ringed g h)
         ∙ unique_sort leb by_number (ring_row l t g)
 
 -- there is one start more than lists

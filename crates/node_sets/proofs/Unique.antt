@@ -1,15 +1,8 @@
 -- A sorted list without its repeats is the list of its distinct elements.
-use Prim.Native.Nat.{ℕ, ◌+◌, ◌≤◌, ◌<◌}
 use mathlib.Core.Path.{◌≡◌, refl, ap, ◌∙◌}
 use mathlib.Core.Logic.{◌⊎◌, inl, inr}
 use mathlib.Core.Bool.{Bool, true, false}
 use mathlib.Core.List.{List, [], ◌∷◌}
-use native.Mathlib.Numerals.{add-one}
-use native.Mathlib.Omega.{arith}
-use borrow.Author.Tests.{le-leb, lt-leb}
-use lib.Dec.{leb}
-use lib.ListN.{length, get_or, drop}
-use lib.Seq.{drop-cons}
 use Rattle.laws.specs.Lists.{insert, sort, add, distinct}
 use Rattle.laws.proofs.Sorting.{Total}
 use Rattle.laws.proofs.Tests.{tested, clash}
@@ -43,13 +36,3 @@ module _ {ℓ} {A : Type ℓ} (le : A → A → Bool) (T : Total le) where
   pub unique_sort : (l : List A) → unique le (sort le l) ≡ distinct le l
   unique_sort [] = refl
   unique_sort (x ∷ l) = unique_insert x (sort le l) ∙ ap (add le x) (unique_sort l)
-
--- ---- word by word
-
--- a word that is not above the one before is left out
-pub rises_same : (R : List ℕ) (i last v : ℕ) → i < length R → v ≡ get_or R i 0 → v ≤ last → rises leb last (drop i R) ≡ rises leb v (drop (i + 1) R)
-rises_same R i last v h e k = let t : leb (get_or R i 0) last ≡ true = le-leb (get_or R i 0) last (omega arith) in rw (drop-cons R i 0 h, add-one i, e, t)
-
--- any other stays
-pub rises_more : (R : List ℕ) (i last v : ℕ) → i < length R → v ≡ get_or R i 0 → last < v → rises leb last (drop i R) ≡ v ∷ rises leb v (drop (i + 1) R)
-rises_more R i last v h e k = let t : leb (get_or R i 0) last ≡ false = lt-leb (get_or R i 0) last (omega arith) in rw (drop-cons R i 0 h, add-one i, e, t)

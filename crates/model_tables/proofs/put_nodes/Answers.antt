@@ -1,11 +1,6 @@
 -- `model_tables::put_nodes` meets its contract: the keys stand, and the node sets behind them.
 use Rattle.model_tables.proofs.Nodes.{keys_stand, sets_stand}
-use native.Mathlib.Omega.{arith}
 use Rattle.model_tables.proofs.put_nodes.Goals as goal
-
-pub put_keys-requires : goal.put_keys-requires
-put_keys-requires c =
-    let p = c.requires in (p.0, p.1, omega (arith, p.2, p.3, p.4))
 
 pub put_sets-requires : goal.put_sets-requires
 put_sets-requires c = keys_stand c.args.l.now c.args.work.now _ c.requires c.put_keys.ensures

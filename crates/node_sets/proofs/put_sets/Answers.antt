@@ -19,7 +19,7 @@ loop-g-preserved c =
     let w = c.args.work.now in
     let at = c.loop-g in
     let t = take l.at.bows w in
-    let same = ap (take l.at.bows) c.split_at_mut-tables.ensures.front ∙ take-take l.at.bows l.at.starts w (omega (arith, c.requires.keys_at, c.requires.starts_at)) in
+    let same = ap (take l.at.bows) c.split_at_mut-tables.ensures.front ∙ take-take l.at.bows l.at.starts w (omega (arith, c.requires.fit.keys_at, c.requires.fit.starts_at)) in
     let from = c.row.ensures.0 ∙ ap (λ (x : List ℕ). get_or x (l.rows + at.g) 0) same in
     let to = c.row-in-loop-g.ensures.0 ∙ ap (λ (x : List ℕ). get_or x (l.rows + (at.g + 1)) 0) same in
     let put = c.put_unique-k.ensures in
@@ -39,12 +39,12 @@ returns c =
     let t = take l.at.bows w in
     let e : at.g ≡ l.at.faces = omega arith in
     let i = subst (λ (g : ℕ). Left l t c.split_at_mut-starts.result.0.now c.split_at_mut-starts.result.1.now g at.k at.starts at.sets) e at.invariant in (
-      done_count l t _ _ at.starts at.sets at.k c.requires.ringed i,
-      done_most l t _ _ at.starts at.sets at.k c.requires.ringed i,
+      done_count l t _ _ at.starts at.sets at.k c.requires.fit.ringed i,
+      done_most l t _ _ at.starts at.sets at.k c.requires.fit.ringed i,
       ap₂ (λ (x y : List ℕ). x ++ y) c.split_at_mut-tables.ensures.front
           (ap₂ (λ (x y : List ℕ). x ++ y)
-          (done_starts l t _ _ at.starts at.sets at.k c.requires.ringed i ∙ ap (λ (x : List ℕ). sets x 0 (starts_of 0 (all l t))) (c.split_at_mut-starts.ensures.front ∙ ap (take (l.at.sets - l.at.starts)) c.split_at_mut-tables.ensures.back))
-          (done_put l t _ _ at.starts at.sets at.k c.requires.ringed i ∙ ap (λ (x : List ℕ). sets x 0 (joined (all l t))) (c.split_at_mut-starts.ensures.back ∙ ap (drop (l.at.sets - l.at.starts)) c.split_at_mut-tables.ensures.back)))
-          ∙ both_put w l.at.starts (l.at.sets - l.at.starts) (starts_of 0 (all l t)) (joined (all l t)) (omega (arith, c.requires.ends, c.requires.sets_at)) (omega (arith, starts_long l t, c.requires.sets_at))
-          ∙ ap (λ (n : ℕ). sets (sets w l.at.starts (starts_of 0 (all l t))) n (joined (all l t))) (omega (arith, c.requires.sets_at)),
+          (done_starts l t _ _ at.starts at.sets at.k c.requires.fit.ringed i ∙ ap (λ (x : List ℕ). sets x 0 (starts_of 0 (all l t))) (c.split_at_mut-starts.ensures.front ∙ ap (take (l.at.sets - l.at.starts)) c.split_at_mut-tables.ensures.back))
+          (done_put l t _ _ at.starts at.sets at.k c.requires.fit.ringed i ∙ ap (λ (x : List ℕ). sets x 0 (joined (all l t))) (c.split_at_mut-starts.ensures.back ∙ ap (drop (l.at.sets - l.at.starts)) c.split_at_mut-tables.ensures.back)))
+          ∙ both_put w l.at.starts (l.at.sets - l.at.starts) (starts_of 0 (all l t)) (joined (all l t)) (omega (arith, c.requires.fit.ends, c.requires.fit.sets_at)) (omega (arith, starts_long l t, c.requires.fit.sets_at))
+          ∙ ap (λ (n : ℕ). sets (sets w l.at.starts (starts_of 0 (all l t))) n (joined (all l t))) (omega (arith, c.requires.fit.sets_at)),
     )
