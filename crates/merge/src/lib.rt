@@ -14,7 +14,8 @@ fn head_of(base: &[u32], x: usize, e: usize, d: usize) -> usize
     if x < e { base[x] as usize } else { d }
 }
 
-// How many runs there are, and where each stands and ends.
+// How many runs there are, and where each stands and ends. Two lists and not one of pairs: the places move and the ends stay, and the
+// contracts say so of each.
 #[derive(Clone, Copy)]
 pub struct Runs {
     pub count: usize,

@@ -137,7 +137,8 @@ fn merge_runs(work: &mut [u32], at: index::Places, lo: usize, runs: &mut merge::
 {
     let mut n = 0;
     let mut g = runs.lowest(&work[..at.found], at.faces);
-    // no `for`: the next face is the lowest that any run has next
+    // no `for`: the next face is the lowest that any run has next; it is `at.faces` where none has one, and no Option, since then no
+    // number would rise from turn to turn
     while g < at.faces {
         n = take_face(work, at, lo, runs, n, g);
         g = runs.lowest(&work[..at.found], at.faces);

@@ -1,11 +1,11 @@
 -- `merge::Runs::open` meets its contract. The places of the first i runs are stored.
-use Prim.Native.Nat.{ℕ, ◌+◌, ◌≤◌, ◌<◌}
+use Prim.Native.Nat.{ℕ, ◌+◌, ◌<◌}
 use mathlib.Core.Path.{◌≡◌, sym, ap, ◌∙◌}
 use mathlib.Core.List.{List, map}
 use native.Mathlib.Omega.{arith}
 use native.Mathlib.Nat.{zero-add}
 use lib.ListN.{length, get_or, take, set, replicate, length-map, get_or-map}
-use lib.Seq.{sets, take_all}
+use lib.Seq.{sets}
 use Rattle.laws.proofs.Stores.{sets_more}
 use Rattle.laws.proofs.ListLaws.{get_or_any}
 use Rattle.merge.proofs.Runs.open.Goals as goal
@@ -21,10 +21,6 @@ module _ (f : ℕ → ℕ) (ns zs : List ℕ) (i : ℕ) where
       ∙ ap (λ (j : ℕ). set (sets zs 0 (take i ys)) j (get_or ys i 0)) (sym (zero-add i))
       ∙ sets_more zs 0 ys i 0 (omega arith)
 
-  -- all are stored
-  done : (l : List ℕ) → l ≡ sets zs 0 (take i (map f ns)) → length ns ≤ i → l ≡ sets zs 0 (map f ns)
-  done l e h = e ∙ ap (sets zs 0) (take_all i (map f ns) (omega (arith, length-map ns f)))
-
 pub loop-i-preserved : goal.loop-i-preserved
 loop-i-preserved c =
     let a = c.args in
@@ -34,13 +30,3 @@ loop-i-preserved c =
       step (λ n. a.x + get_or a.base.now (a.o + n) 0) a.list.now z l.i l.runs.from l.invariant.1 c.loop-i-test.true,
       step (λ n. a.x + get_or a.base.now (a.o + n + 1) 0) a.list.now z l.i l.runs.to l.invariant.2 c.loop-i-test.true,
     )
-
-pub returns-clause-from : goal.returns-clause-from
-returns-clause-from c =
-    let a = c.args in
-    done (λ n. a.x + get_or a.base.now (a.o + n) 0) a.list.now (replicate 64 0) c.loop-i.i _ c.loop-i.invariant.1 (omega arith)
-
-pub returns-clause-to : goal.returns-clause-to
-returns-clause-to c =
-    let a = c.args in
-    done (λ n. a.x + get_or a.base.now (a.o + n + 1) 0) a.list.now (replicate 64 0) c.loop-i.i _ c.loop-i.invariant.2 (omega arith)
