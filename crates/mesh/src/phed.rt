@@ -9,12 +9,10 @@ pub const SEPARATOR: u32 = 4294967295;
 fn lead(words: &[u32]) -> usize
     ensures { result ≡ lead words.now }
 {
-    for i in 0..words.len() {
-        if words[i] == SEPARATOR {
-            return i;
-        }
-    }
-    words.len()
+    words
+        .iter()
+        .position(|word| *word == SEPARATOR)
+        .unwrap_or(words.len())
 }
 
 // What stands behind the first n words and a separator.
