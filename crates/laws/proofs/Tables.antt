@@ -57,11 +57,6 @@ refusal_first (row ∷ rows) b n = go (tested row.1) (λ m. refusal_first rows b
 pub refusal_second : (a b : List (ℕ × Bool)) → Numbered a → refusal a ≡ 0 → refusal (a ++ b) ≡ refusal b
 refusal_second a b n z = clear_append a b (refusal_clear a n z)
 
--- where no reason of the second holds, the first's number stands
-pub refusal_end : (a b : List (ℕ × Bool)) → any reason b ≡ false → refusal (a ++ b) ≡ refusal a
-refusal_end [] b e = clear_refusal b e
-refusal_end (row ∷ rows) b e = ap (cond row.1 row.0) (refusal_end rows b e)
-
 -- a list that a refusal leaves as it was
 pub unfilled : {A : Type 0} (n m : ℕ) (xs l : List A) → n ≡ m → m ≢ 0 → l ≡ filled n xs l
 unfilled n m xs l h p = sym (ap (λ (k : ℕ). filled k xs l) h ∙ ap (λ (b : Bool). cond b (xs ++ drop (length xs) l) l) (ne_eqb m 0 p))

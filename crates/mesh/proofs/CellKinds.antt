@@ -2,17 +2,16 @@
 use Prim.Native.Nat.{ℕ, ◌≤◌}
 use Rattle.std.specs.Prelude.{Option, None, is_none, IfSome}
 use Rattle.std.proofs.lemmas.Option.{IfSome_then}
-use mathlib.Core.Path.{◌≡◌, refl, sym, ap, ◌∙◌, subst}
+use mathlib.Core.Path.{◌≡◌, refl, sym, ◌∙◌, subst}
 use mathlib.Core.Logic.{◌≢◌, ◌⊎◌, inl, inr}
 use mathlib.Core.Bool.{Bool, true, false, not, ◌&&◌, ◌||◌, false≢true}
 use mathlib.Core.List.{List, [], ◌∷◌}
 use native.Mathlib.Omega.{arith}
 use borrow.Author.Tests.{ltb-false, eqb-true, eqb-false}
 use lib.Dec.{leb, ltb, eqb}
-use lib.ListN.{length, take, drop, take-append-drop}
+use lib.ListN.{length}
 use Rattle.laws.specs.Lists.{any}
 use Rattle.laws.specs.Refusals.{refusal}
-use Rattle.laws.proofs.ListLaws.{any_append}
 use Rattle.laws.proofs.Tests.{tested, clash, or_none}
 use Rattle.mesh.specs.Model.{Raw, TET4, PHED}
 use Rattle.mesh.specs.Rings.{rings_of}
@@ -71,13 +70,6 @@ unfolding cell_table
 judged_well_lem n before c e f g = rw (e, f, g)
 
 -- ---- words judged all at once
-
--- no element of a part passes where none of the whole does
-pub any_part {ℓ} : {A : Type ℓ} (p : A → Bool) (l : List A) (a m : ℕ) → any p l ≡ false → any p (take m (drop a l)) ≡ false
-any_part p l a m e =
-    let s = or_none (any p (take a l)) (any p (drop a l)) (sym (any_append p (take a l) (drop a l)) ∙ ap (any p) (take-append-drop a l) ∙ e) in
-    let t = drop a l in
-    (or_none (any p (take m t)) (any p (drop m t)) (sym (any_append p (take m t) (drop m t)) ∙ ap (any p) (take-append-drop m t) ∙ s.1)).0
 
 -- words that are all nodes of a tetrahedron are so of any kind
 pub any_kind : (n k : ℕ) (ws : List ℕ) → any (node_off n TET4) ws ≡ false → any (node_off n k) ws ≡ false

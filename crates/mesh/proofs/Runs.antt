@@ -1,33 +1,23 @@
 -- Runs one by one: the first run of a list of words, and those behind it.
-use Prim.Native.Nat.{ℕ, suc, ◌+◌, ◌≤◌, ◌<◌}
-use mathlib.Core.Path.{◌≡◌, refl, ap, ap₂, ◌∙◌}
-use mathlib.Core.Logic.{◌⊎◌, inl, inr, ◌≢◌}
+use Prim.Native.Nat.{ℕ, suc, ◌≤◌}
+use mathlib.Core.Path.{◌≡◌, refl, sym, ap, ap₂, ◌∙◌}
+use mathlib.Core.Logic.{◌⊎◌, inl, inr}
 use mathlib.Core.Bool.{Bool, true, false, cond}
 use mathlib.Core.List.{List, [], ◌∷◌, ◌++◌}
-use native.Mathlib.Numerals.{add-one}
 use native.Mathlib.Omega.{arith}
-use borrow.Author.Tests.{ltb-false, eq-eqb, ne_eqb, lt-ltb}
+use borrow.Author.Tests.{ltb-false, lt-ltb}
 use lib.Dec.{leb, ltb, eqb, leb-suc-suc}
-use lib.ListN.{length, get_or, take, drop, drop_of_length-le}
-use lib.Seq.{drop-cons, length-take-le}
+use lib.ListN.{length, take, drop, drop_of_length-le}
+use lib.Seq.{length-take-le}
+use Rattle.std.specs.Option.{unwrap_or}
+use Rattle.std.specs.List.{position, position_or_len}
+use Rattle.std.proofs.lemmas.List.Recursion.{is_position_or_len}
 use Rattle.laws.specs.Lists.{only_if, keep}
 use Rattle.laws.proofs.Tests.{tested}
 use Rattle.mesh.specs.Rings.{separator, runs, phed_rings}
 use Rattle.mesh.specs.Steps.{lead}
 
 -- ---- where a run ends
-
--- at a separator
-pub lead_stop : (ws : List ℕ) (i : ℕ) → i < length ws → get_or ws i 0 ≡ separator → lead (drop i ws) ≡ 0
-lead_stop ws i h e = rw (drop-cons ws i 0 h, eq-eqb (get_or ws i 0) separator e)
-
--- at any other word it goes on
-pub lead_more : (ws : List ℕ) (i : ℕ) → i < length ws → get_or ws i 0 ≢ separator → lead (drop i ws) ≡ suc (lead (drop (i + 1) ws))
-lead_more ws i h e = rw (drop-cons ws i 0 h, ne_eqb (get_or ws i 0) separator e, add-one i)
-
--- at the end of the words
-pub lead_end : (ws : List ℕ) (i : ℕ) → length ws ≤ i → lead (drop i ws) ≡ 0
-lead_end ws i h = ap lead (drop_of_length-le ws h)
 
 pub lead_le : (ws : List ℕ) → lead ws ≤ length ws
 lead_le [] = omega arith
@@ -36,6 +26,17 @@ lead_le (w ∷ ws) = go (tested (eqb w separator)) (lead_le ws)
     go : (eqb w separator ≡ true) ⊎ (eqb w separator ≡ false) → lead ws ≤ length ws → lead (w ∷ ws) ≤ suc (length ws)
     go (inl e) h = rw e (omega arith)
     go (inr e) h = rw e (omega arith)
+
+-- the first separator's place, or how many words there are
+lead_is : (ws : List ℕ) → lead ws ≡ position_or_len (λ w. eqb w separator) ws
+lead_is ws = is_position_or_len lead (λ w. eqb w separator) refl (λ w l. ap (cond (eqb w separator) 0) (omega arith)) ws
+
+pub lead_found : (ws : List ℕ) → unwrap_or (position (λ w. eqb w separator) ws) (length ws) ≡ lead ws
+lead_found ws = go (tested (ltb (position_or_len (λ w. eqb w separator) ws) (length ws)))
+  where
+    go : (ltb (position_or_len (λ w. eqb w separator) ws) (length ws) ≡ true) ⊎ (ltb (position_or_len (λ w. eqb w separator) ws) (length ws) ≡ false) → unwrap_or (position (λ w. eqb w separator) ws) (length ws) ≡ lead ws
+    go (inl e) = rw e (sym (lead_is ws))
+    go (inr e) = rw e (omega (arith, lead_is ws, lead_le ws, ltb-false (position_or_len (λ w. eqb w separator) ws) (length ws) e))
 
 -- ---- the first run, and those behind it
 

@@ -1,5 +1,5 @@
 // The rings of a PHED: the runs of its words between separators, those under three nodes dropped.
-ghost use Rattle.std.specs.Prelude.{◌≡◌, length, drop, suc};
+ghost use Rattle.std.specs.Prelude.{◌≡◌, ◌≤◌, length, drop, suc};
 ghost use Rattle.mesh.specs.Steps.{lead};
 
 // The word that separates the rings of a PHED.
@@ -9,22 +9,18 @@ pub const SEPARATOR: u32 = 4294967295;
 fn lead(words: &[u32]) -> usize
     ensures { result ≡ lead words.now }
 {
-    for i in 0..words.len() {
-        if words[i] == SEPARATOR {
-            return i;
-        }
-    }
-    words.len()
+    words
+        .iter()
+        .position(|word| *word == SEPARATOR)
+        .unwrap_or(words.len())
 }
 
 // What stands behind the first n words and a separator.
 fn behind(words: &[u32], n: usize) -> &[u32]
+    requires { n ≤ length words.now }
     ensures { result.now ≡ drop (suc n) words.now }
 {
-    if words.len() <= n {
-        return &words[words.len()..];
-    }
-    &words[n + 1..]
+    &words[(n + 1).min(words.len())..]
 }
 
 // The rings that are left, one by one.
@@ -53,6 +49,7 @@ impl<'a> Iterator for PhedRings<'a> {
 
     fn next(&mut self) -> Option<&'a [u32]> {
         // no `for`: a turn passes over the runs that are no ring, however many
+        // no `split` kept: its type has its closure's, which a struct can't name
         while !self.words.is_empty() {
             let n = lead(self.words);
             let run = &self.words[..n];

@@ -38,10 +38,6 @@ module _ {l out : List ℕ} {o k : ℕ} {all rest : List ℕ} (p : Putting l out
     place = omega (arith, w.0, ap length is, length-append now later, p.place);
   }
 
--- all are put
-pub putting_end : {l out : List ℕ} {o k : ℕ} {all rest : List ℕ} → Putting l out o k all rest → rest ≡ [] → WordsPut all l out o k
-putting_end {out = out} {k = k} p e = (omega (arith, p.place, ap length e), ap (sets out k) (sym e) ∙ p.put)
-
 -- words stand, and others right behind them
 pub put_both : (l x out : List ℕ) (o k n : ℕ) (xs ys : List ℕ) → WordsPut xs l x o k → WordsPut ys x out k n → WordsPut (xs ++ ys) l out o n
 put_both l x out o k n xs ys a b = (

@@ -14,7 +14,7 @@ ghost use Rattle.tables.specs.Owners.{owners_from};
 
 use mesh::{Accepted, Cell, Kind, PhedRings};
 
-// n times the word v; answers the place behind them.
+// n times the word v; answers the place behind them, from which its five callers go on.
 fn put_copies(n: usize, v: u32, work: &mut [u32], at: usize) -> usize
     requires { at + n ≤ length work.old }
     ensures { WordsPut (replicate n v) work.old work.new at result }

@@ -1,5 +1,5 @@
 use native.Mathlib.Omega.{arith}
-use Rattle.std.proofs.lemmas.Result.{err_from_is_err_and}
+use Rattle.refusals.proofs.Told.{err_passed}
 use Rattle.mesh.specs.Lent.{lent}
 use Rattle.faces.proofs.Lookups.{judged_model, judged_raw, judged_welded, judged_face, judged_none}
 use Rattle.faces.proofs.judge_lookup.Goals as goal
@@ -7,8 +7,7 @@ use Rattle.faces.proofs.judge_lookup.Goals as goal
 pub returns-in_err-m-clause-told : goal.returns-in_err-m-clause-told
 returns-in_err-m-clause-told c =
     let a = c.args in
-    let p = err_from_is_err_and c.from_residual.result c.from_residual.ensures.1 in
-    rw (p.1, p.2) (judged_model (lent a.model.now) a.raw.now a.welded.now a.face c.in_err-m.field-0.0 c.in_err-m.ensures)
+    rw (err_passed _ c.from_residual.ensures.1) (judged_model (lent a.model.now) a.raw.now a.welded.now a.face c.in_err-m.field-0.0 c.in_err-m.ensures)
 
 pub returns-then-raw-m-clause-told : goal.returns-then-raw-m-clause-told
 returns-then-raw-m-clause-told c =

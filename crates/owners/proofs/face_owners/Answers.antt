@@ -1,6 +1,6 @@
 use native.Mathlib.Omega.{arith}
 use borrow.Author.Rules.{rules}
-use Rattle.std.proofs.lemmas.Result.{err_from_is_err_and}
+use Rattle.refusals.proofs.Told.{err_passed}
 use Rattle.mesh.specs.Lent.{lent}
 use Rattle.mesh.specs.Model.{cells_of}
 use Rattle.faces.proofs.Rings.{few_faces}
@@ -11,8 +11,7 @@ use Rattle.owners.proofs.face_owners.Goals as goal
 pub returns-in_err-m : goal.returns-in_err-m
 returns-in_err-m c =
     let a = c.args in
-    let p = err_from_is_err_and c.from_residual.result c.from_residual.ensures.1 in
-    rw (p.1, p.2) (refused_model (lent a.model.now) a.face a.owners.now c.in_err-m.field-0.0 c.in_err-m.ensures)
+    rw (err_passed _ c.from_residual.ensures.1) (refused_model (lent a.model.now) a.face a.owners.now c.in_err-m.field-0.0 c.in_err-m.ensures)
 
 pub returns-then-m-face : goal.returns-then-m-face
 returns-then-m-face c =

@@ -3,9 +3,8 @@ use mathlib.Core.Path.{◌≡◌, sym, ◌∙◌, subst}
 use native.Mathlib.Omega.{arith}
 use lib.ListN.{length}
 use Rattle.std.specs.Prelude.{Ok, Err}
-use Rattle.std.proofs.lemmas.Result.{err_from_is_err_and}
 use Rattle.refusals.specs.declared.Refusal.TheVariants.{Work, Room}
-use Rattle.refusals.proofs.Told.{number-positive, told_ok, told_err}
+use Rattle.refusals.proofs.Told.{number-positive, told_ok, told_err, err_passed}
 use Rattle.mesh.specs.Model.{Model}
 use Rattle.mesh.specs.Lent.{lent}
 use Rattle.mesh.specs.Acceptance.{work_needed}
@@ -17,10 +16,9 @@ use Rattle.ring_lists.proofs.fill_ring_lists.Goals as goal
 pub returns-in_err-accepted : goal.returns-in_err-accepted
 returns-in_err-accepted c =
     let m = lent c.args.model.now in
-    let p = err_from_is_err_and c.from_residual.result c.from_residual.ensures.1 in
     let e = c.in_err-accepted.field-0.0 in
     let n = told_err {A = Accepted} (λ a. lent a.model) e _ _ c.in_err-accepted.ensures in
-    rw (p.1, p.2) (refused_so m c.args.raw.now c.args.welded.now c.args.work.now e (n ∙ sym (row_model m _ _ _ (λ z. omega (arith, number-positive e, n, z)))))
+    rw (err_passed _ c.from_residual.ensures.1) (refused_so m c.args.raw.now c.args.welded.now c.args.work.now e (n ∙ sym (row_model m _ _ _ (λ z. omega (arith, number-positive e, n, z)))))
 
 pub returns-then-work-work_needed : goal.returns-then-work-work_needed
 returns-then-work-work_needed c =

@@ -35,3 +35,6 @@ returns-then-n-ge3-clause-goes c =
     let s : phed_rings c.args.self.now.words.now ≡ take c.lead-n.result c.loop-n.self.words.now ∷ phed_rings c.behind-self.result.now =
     sym c.loop-n.invariant ∙ first_ring c.loop-n.self.words.now _ c.lead-n.result c.lead-n.ensures c.behind-self.ensures c.if-n-ge3.true in
     search rules
+
+pub behind-self-requires : goal.behind-self-requires
+behind-self-requires c = omega (arith, lead_le c.loop-n.self.words.now, c.lead-n.ensures)
