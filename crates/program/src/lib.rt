@@ -19,7 +19,7 @@ fn report_on(model: &Model, findings: &mut [u8], work: &mut [u32], out: &mut [u8
     ensures { Reporting (lent model.now) findings.old findings.new work.old work.new out.old out.new result }
 {
     match conformance::check(model, findings, work) {
-        Err(e) => report_text::put_refused(out, 0, e.number() as u64),
+        Err(e) => report_text::put_refused(out, 0, e),
         Ok(c) => report_text::put_report(out, findings, c.totals.total, c.totals.kept as usize),
     }
 }
@@ -61,10 +61,10 @@ pub fn run_in(
     ensures { Running input.now coords.old coords.new kinds.old kinds.new ends.old ends.new words.old words.new findings.old findings.new work.old work.new out.old out.new result }
 {
     if 32768 < input.len() {
-        return report_text::put_refused(out, 0, Refusal::FileLength.number() as u64);
+        return report_text::put_refused(out, 0, Refusal::FileLength);
     }
     match model_read::read(input, coords, kinds, ends, words) {
-        Err(e) => report_text::put_refused(out, 0, e.number() as u64),
+        Err(e) => report_text::put_refused(out, 0, e),
         Ok(f) => {
             let m = found_model(f, coords, kinds, ends, words);
             report_on(&m, findings, work, out)
