@@ -29,7 +29,7 @@ pub extern "C" fn lenoshale_read(
             *cell_count = f.cells as u64;
             *word_count = f.words as u64;
             *tolerance = f.tolerance;
-            *flags = f.flags;
+            *flags = f.checks.0;
             *cap = f.cap;
             0
         }

@@ -99,7 +99,7 @@ module _ (s : List ℕ) (coords coords' : List Float) (kinds kinds' ends ends' w
       let ks = part f.cells (decode s).kinds kinds kinds' p.memory.kinds_are cells in
       let es = part f.cells (decode s).ends ends ends' p.memory.ends_are (cells ∙ sym (ends_as_cells rs j.1)) in
       let ws = part f.words (decode s).words words words' p.memory.words_are (ap (λ (x : Found). x.words) g) in
-      λ i. model_of (cs i) (ks i) (es i) (ws i) (g i).tolerance (g i).flags (g i).cap
+      λ i. model_of (cs i) (ks i) (es i) (ws i) (g i).tolerance (g i).checks.0 (g i).cap
 
 -- ---- the theorems
 

@@ -3,6 +3,7 @@
 
 ghost use Rattle.model_file.specs.Letters.{LetterRead};
 
+use mesh::{Checks, Model};
 use refusals::Refusal;
 
 // What a record is, under its first byte.
@@ -57,6 +58,37 @@ pub struct Found {
     pub cells: usize,
     pub words: usize,
     pub tolerance: f64,
-    pub flags: u8,
+    pub checks: Checks,
     pub cap: u16,
+}
+
+impl Found {
+    ghost use Rattle.std.specs.Prelude.{◌≡◌, ◌↔◌, IsSome, IfSome, length};
+    ghost use Rattle.mesh.specs.Lent.{lent};
+    ghost use Rattle.model_file.specs.Reading.{Within, model_in};
+
+    // The model that was found, in the filled parts of the lists; none where a list is shorter than what was found.
+    pub fn model<'a>(
+        &self,
+        coords: &'a [f64],
+        kinds: &'a [u8],
+        ends: &'a [u32],
+        words: &'a [u32],
+    ) -> Option<Model<'a>>
+        ensures variant { IsSome result ↔ Within self.now (length coords.now) (length kinds.now) (length ends.now) (length words.now) }
+        ensures model { IfSome result (λ m. lent m ≡ model_in self.now coords.now kinds.now ends.now words.now) }
+    {
+        if coords.len() / 3 < self.nodes {
+            return None;
+        }
+        Some(Model {
+            coords: &coords[..3 * self.nodes],
+            kinds: kinds.get(..self.cells)?,
+            ends: ends.get(..self.cells)?,
+            words: words.get(..self.words)?,
+            tolerance: self.tolerance,
+            checks: self.checks,
+            cap: self.cap,
+        })
+    }
 }

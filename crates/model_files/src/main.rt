@@ -4,7 +4,7 @@
 
 ghost use Rattle.std.specs.Prelude.{◌<◌};
 
-use mesh::{Checks, Model};
+use mesh::Model;
 use model_file::Found;
 use refusals::Refusal;
 use std::io;
@@ -54,7 +54,7 @@ fn tried(
         ends: ends.get(..f.cells)?,
         words: words.get(..f.words)?,
         tolerance: f.tolerance,
-        checks: Checks(f.flags),
+        checks: f.checks,
         cap: f.cap,
     };
     Some(Outcome {

@@ -63,7 +63,7 @@ last_long s h k =
 -- what is found besides the lists
 pub found_is_lem : (s r : List ℕ) (p : Place) → r ≡ last_of (records s) → p.coords ≡ length (coords_of (records s)) → p.cells ≡ length (kinds_of (records s)) → p.words ≡ length (words_of (records s)) → found_at r p ≡ found_in (decode s)
 unfolding decode
-found_is_lem s r p e a b c = λ i. record { nodes = a i / 3; cells = b i; words = c i; tolerance = float_at 8 (e i); flags = byte1 (e i); cap = cap_in (e i) }
+found_is_lem s r p e a b c = λ i. record { nodes = a i / 3; cells = b i; words = c i; tolerance = float_at 8 (e i); checks = record { 0 = byte1 (e i) }; cap = cap_in (e i) }
 
 -- ---- the length
 

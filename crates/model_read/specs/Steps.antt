@@ -102,4 +102,4 @@ pub record Filled (s : List ℕ) (coords coords' : List Float) (kinds kinds' end
 
 -- what is answered, from the last record and the place after it
 abbrev pub found_at : List ℕ → Place → Found
-found_at r p = record { nodes = p.coords / 3; cells = p.cells; words = p.words; tolerance = float_at 8 r; flags = byte1 r; cap = cap_in r }
+found_at r p = record { nodes = p.coords / 3; cells = p.cells; words = p.words; tolerance = float_at 8 r; checks = record { 0 = byte1 r }; cap = cap_in r }

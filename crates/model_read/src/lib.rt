@@ -9,6 +9,7 @@ ghost use Rattle.model_read.specs.Steps.{short as short_of, found_at};
 
 use filling::fill_all;
 use judging::{judge_all, leading_nodes};
+use mesh::Checks;
 use model_file::Found;
 use refusals::Refusal;
 
@@ -41,7 +42,7 @@ fn found_in(r: &[u8], p: Place) -> Found
         cells: p.cells,
         words: p.words,
         tolerance: floats::le_f64(r, 8),
-        flags: r[1],
+        checks: Checks(r[1]),
         cap: cap_of(r),
     }
 }

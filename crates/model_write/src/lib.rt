@@ -15,7 +15,7 @@ ghost use Rattle.model_file.specs.File.{node_records, cell_records};
 ghost use Rattle.model_file.specs.Steps.{join};
 ghost use Rattle.model_file.specs.Writing.{Writing};
 
-use mesh::{Accepted, Cell, Kind, Model};
+use mesh::{Accepted, Cell, Checks, Kind, Model};
 use model_file::Letter;
 use refusals::Refusal;
 
@@ -34,12 +34,12 @@ fn put_node(r: &mut [u8], x: f64, y: f64, z: f64)
 }
 
 // T
-fn put_last(r: &mut [u8], flags: u8, cap: u16, tolerance: f64)
+fn put_last(r: &mut [u8], checks: Checks, cap: u16, tolerance: f64)
     requires { length r.old ≡ 32 }
-    ensures { r.new ≡ last_record flags cap tolerance }
+    ensures { r.new ≡ last_record checks.0 cap tolerance }
 {
     r[0] = Letter::Last.byte();
-    r[1] = flags;
+    r[1] = checks.0;
     floats::put_bytes(r, 2, 2, cap as u64);
     r[4..8].fill(0);
     floats::put_f64(r, 8, tolerance);
@@ -205,7 +205,7 @@ fn write_accepted(model: &Accepted, out: &mut [u8]) -> Result<usize, Refusal>
     put_nodes(out, m.coords);
     put_cells(out, 32 * n, model);
     let at = 32 * (n + c);
-    put_last(&mut out[at..at + 32], m.checks.0, m.cap, m.tolerance);
+    put_last(&mut out[at..at + 32], m.checks, m.cap, m.tolerance);
     Ok(size)
 }
 

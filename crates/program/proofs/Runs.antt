@@ -192,14 +192,14 @@ module _ (s : List ℕ) (coords coords' : List Float) (kinds kinds' ends ends' w
       }
 
   -- the filled parts are the model of the file
-  same_model : model_of (take (3 * f.nodes) coords') (take f.cells kinds') (take f.cells ends') (take f.words words') f.tolerance f.flags f.cap ≡ decode s
+  same_model : model_of (take (3 * f.nodes) coords') (take f.cells kinds') (take f.cells ends') (take f.words words') f.tolerance f.checks.0 f.cap ≡ decode s
   unfolding decode
   same_model =
       let cs = in_front_part (decode s).coords coords coords' (3 * f.nodes) coords_count coords_front in
       let ks = in_front_part (decode s).kinds kinds kinds' f.cells kinds_count kinds_front in
       let es = in_front_part (decode s).ends ends ends' f.cells ends_count ends_front in
       let ws = in_front_part (decode s).words words words' f.words words_count words_front in
-      λ i. model_of (cs i) (ks i) (es i) (ws i) (found.1 i).tolerance (found.1 i).flags (found.1 i).cap
+      λ i. model_of (cs i) (ks i) (es i) (ws i) (found.1 i).tolerance (found.1 i).checks.0 (found.1 i).cap
 
   -- why it is not reported: checking's refusal
   program_no : program_refusal s ≡ checked_refusal (decode s)
@@ -212,7 +212,7 @@ module _ (s : List ℕ) (coords coords' : List Float) (kinds kinds' ends ends' w
 
   -- a model read and checked: its report
   pub checked : (findings findings' work work' out out' : List ℕ) (r : ℕ)
-      → Reporting (model_of (take (3 * f.nodes) coords') (take f.cells kinds') (take f.cells ends') (take f.words words') f.tolerance f.flags f.cap) findings findings' work work' out out' r
+      → Reporting (model_of (take (3 * f.nodes) coords') (take f.cells kinds') (take f.cells ends') (take f.words words') f.tolerance f.checks.0 f.cap) findings findings' work work' out out' r
       → Running s coords coords' kinds kinds' ends ends' words words' findings findings' work work' out out' r
   checked findings findings' work work' out out' r q =
       let p = subst (λ (m : Model). Reporting m findings findings' work work' out out' r) same_model q in

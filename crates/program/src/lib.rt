@@ -9,7 +9,7 @@ ghost use Rattle.report_text.specs.Stored.{Stored};
 ghost use Rattle.program.specs.Running.{Memory, Lists, Running};
 ghost use Rattle.program.specs.Steps.{Parts, Reporting};
 
-use mesh::{Checks, Model};
+use mesh::Model;
 use model_file::Found;
 use refusals::Refusal;
 
@@ -33,7 +33,7 @@ fn found_model<'a>(
     words: &'a [u32],
 ) -> Model<'a>
     requires { Parts f (length coords.now) (length kinds.now) (length ends.now) (length words.now) }
-    ensures { lent result ≡ model_of (take (3 * f.nodes) coords.now) (take f.cells kinds.now) (take f.cells ends.now) (take f.words words.now) f.tolerance f.flags f.cap }
+    ensures { lent result ≡ model_of (take (3 * f.nodes) coords.now) (take f.cells kinds.now) (take f.cells ends.now) (take f.words words.now) f.tolerance f.checks.0 f.cap }
 {
     Model {
         coords: &coords[..3 * f.nodes],
@@ -41,7 +41,7 @@ fn found_model<'a>(
         ends: &ends[..f.cells],
         words: &words[..f.words],
         tolerance: f.tolerance,
-        checks: Checks(f.flags),
+        checks: f.checks,
         cap: f.cap,
     }
 }

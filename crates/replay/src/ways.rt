@@ -2,7 +2,7 @@
 use crate::lent;
 use conformance::Checked;
 use full_list::Choice;
-use mesh::{Checks, Model};
+use mesh::Model;
 use model_file::Found;
 use refusals::Refusal;
 use seek::Tally;
@@ -86,7 +86,7 @@ fn model_in<'a>(
         ends: ends.get(..f.cells)?,
         words: words.get(..f.words)?,
         tolerance: f.tolerance,
-        checks: Checks(f.flags),
+        checks: f.checks,
         cap: f.cap,
     })
 }
