@@ -26,11 +26,12 @@ struct Recorded<'a> {
 // ---- records
 
 const OVERFULL: u8 = Kind::Overfull as u8;
+
 const PARTLY_SHARED: u8 = Kind::PartlyShared as u8;
 
 // The end of the fields from byte 12 on that the Rust does not have: a and b of an overfull face, those and the count of a pair.
 fn untold_end(kind: u8) -> usize
-    ensures { result ≤ 64 }
+    ensures { (12 ≤ result) × (result ≤ 64) }
 {
     match kind {
         OVERFULL => 20,
@@ -45,10 +46,8 @@ fn same_record(ours: &[u8], theirs: &[u8]) -> bool {
         return false;
     };
     let mut told = *ours;
-    for byte in told.iter_mut().take(untold_end(ours[0])).skip(12) {
-        *byte = 0;
-    }
-    told[..] == *theirs
+    told[12..untold_end(ours[0])].fill(0);
+    theirs == &told
 }
 
 // Their records stand in front of the bytes, and all behind them is as it was.
