@@ -47,7 +47,7 @@ fn same_record(ours: &[u8], theirs: &[u8]) -> bool {
     };
     let mut told = *ours;
     told[12..untold_end(ours[0])].fill(0);
-    theirs == &told
+    theirs == told.as_slice()
 }
 
 // Their records stand in front of the bytes, and all behind them is as it was.

@@ -7,33 +7,16 @@ ghost use Rattle.std.specs.Iterator.{at_most};
 use arrayvec::ArrayString;
 use refusals::Refusal;
 use std::fmt::Write;
-use std::io::Read;
 use std::marker::PhantomData;
 use std::rt::Files;
 use std::{fs, io};
 
 // ---- files
 
-// Reads to the front of buf until it is full, the input ends or a read fails.
-fn read_full<R: Read>(input: &mut R, buf: &mut [u8]) -> usize
-    ensures { result ≤ length buf.new }
-{
-    let mut done = 0;
-    // no `for`: a read gives as many bytes as there are at hand
-    while done < buf.len() {
-        let n = input.read(&mut buf[done..]).unwrap_or(0);
-        if n == 0 {
-            break;
-        }
-        done += n;
-    }
-    done
-}
-
-// Reads the file of that name to the front of buf, and answers that part; none where there is no such file.
+// Reads the file of that name to the front of buf, and answers that part; none where there is no such file or it is not read.
 pub fn read_file<'a, R: Files>(rt: &R, name: &str, buf: &'a mut [u8]) -> Option<&'a mut [u8]> {
     let mut file = fs::open(rt, name).ok()?;
-    let n = read_full(&mut file, buf);
+    let n = full_reads::read_full(&mut file, buf).ok()?;
     Some(&mut buf[..n])
 }
 
