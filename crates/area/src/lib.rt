@@ -9,7 +9,7 @@ ghost use Rattle.refusals.specs.Told.{told};
 ghost use Rattle.geometry.specs.Points.{point_dot, point_cross, length_of, points_of};
 ghost use Rattle.geometry.specs.Nodes.{points_in};
 ghost use Rattle.geometry.specs.Steps.{InNodes};
-ghost use Rattle.area.specs.AreaTest.{extent_of, direction_of, thick_of, area_of, is_spans, list_off, area_answer};
+ghost use Rattle.area.specs.AreaTest.{extent_of, direction_of, thick_of, area_of, area_number, is_spans, list_off, area_answer};
 ghost use Rattle.area.specs.Steps.{away_from, most_of};
 
 use geometry::{Nodes, Point};
@@ -23,6 +23,14 @@ pub enum Area {
     NoDirection,
     Thin,
     Spans,
+}
+
+impl From<Area> for u32 {
+    ghost from_gives = { λ a n. n ≡ area_number a };
+
+    fn from(a: Area) -> u32 {
+        a as u32
+    }
 }
 
 // ---- differences from the first node, of the nodes after it

@@ -87,8 +87,9 @@ pub extern "C" fn lenoshale_ring_lookup(
         checks: Checks(flags),
         cap: 0,
     };
+    // no `if let` and `status`: where the branches join, the kit makes no proof of what holds a model
     match faces::judge_lookup(&model, raw, welded, face) {
-        Err(e) => e.number() as u32,
+        Err(e) => answers::refused(e),
         Ok(m) => {
             let s = faces::find_ring(&m, face);
             *start = s.start as u64;

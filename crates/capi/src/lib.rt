@@ -1,5 +1,6 @@
 // The operations for programs in C and Rust: a slice is a pointer and a length, an out-parameter a pointer.
-// Each but the version answers 0 or the refusal's number; at a refusal nothing is written.
+// Each but the version answers 0 or the refusal's number; at a refusal nothing is written. A model is made of its fields by name in each: a
+// function of seven arguments that are told apart by their places alone would be no plainer.
 #![tactic(auto)]
 
 ghost use Rattle.std.specs.Prelude.{◌≡◌};
@@ -50,14 +51,16 @@ pub extern "C" fn lenoshale_work_needed(
         checks: Checks(flags),
         cap: 0,
     };
-    let m = match mesh::accept(&model) {
-        Err(e) => return e.number() as u32,
-        Ok(m) => m,
-    };
-    *need = m.work_needed() as u64;
-    *ring_words = m.ring_words as u64;
-    *faces = m.faces as u64;
-    0
+    // no `if let` and `status`: where the branches join, the kit makes no proof of what holds a model
+    match mesh::accept(&model) {
+        Err(e) => answers::refused(e),
+        Ok(m) => {
+            *need = m.work_needed() as u64;
+            *ring_words = m.ring_words as u64;
+            *faces = m.faces as u64;
+            0
+        }
+    }
 }
 
 // Checks a model: the findings kept, their total and how many are kept.
@@ -87,13 +90,10 @@ pub extern "C" fn lenoshale_check(
         checks,
         cap,
     };
-    match conformance::check(&m, findings, work) {
-        Err(e) => e.number() as u32,
-        Ok(c) => {
-            let t = c.totals;
-            *total = t.total;
-            *kept = t.kept;
-            0
-        }
+    let checked = conformance::check(&m, findings, work);
+    if let Ok(c) = checked {
+        *total = c.totals.total;
+        *kept = c.totals.kept;
     }
+    answers::status(checked)
 }

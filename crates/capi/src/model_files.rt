@@ -3,6 +3,7 @@ ghost use Rattle.mesh.specs.Model.{model_of};
 ghost use Rattle.model_file.specs.Reading.{found_of};
 ghost use Rattle.capi.specs.Files.{ReadExport, WriteExport};
 
+use crate::answers;
 use mesh::{Checks, Model};
 
 // Reads a file: its lists, three coordinates a node, and what it says besides them.
@@ -22,18 +23,16 @@ pub extern "C" fn lenoshale_read(
 ) -> u32
     ensures { ReadExport bytes.now coords.old coords.new kinds.old kinds.new ends.old ends.new words.old words.new (found_of node_count.old cell_count.old word_count.old tolerance.old flags.old cap.old) (found_of node_count.new cell_count.new word_count.new tolerance.new flags.new cap.new) result }
 {
-    match model_read::read(bytes, coords, kinds, ends, words) {
-        Err(e) => e.number() as u32,
-        Ok(f) => {
-            *node_count = f.nodes as u64;
-            *cell_count = f.cells as u64;
-            *word_count = f.words as u64;
-            *tolerance = f.tolerance;
-            *flags = f.checks.0;
-            *cap = f.cap;
-            0
-        }
+    let found = model_read::read(bytes, coords, kinds, ends, words);
+    if let Ok(f) = found {
+        *node_count = f.nodes as u64;
+        *cell_count = f.cells as u64;
+        *word_count = f.words as u64;
+        *tolerance = f.tolerance;
+        *flags = f.checks.0;
+        *cap = f.cap;
     }
+    answers::status(found)
 }
 
 // Writes a model's file, and its length in bytes.
@@ -60,11 +59,9 @@ pub extern "C" fn lenoshale_write(
         checks: Checks(flags),
         cap,
     };
-    match model_write::write(&m, out) {
-        Err(e) => e.number() as u32,
-        Ok(n) => {
-            *size = n as u64;
-            0
-        }
+    let written = model_write::write(&m, out);
+    if let Ok(n) = written {
+        *size = n as u64;
     }
+    answers::status(written)
 }

@@ -1,11 +1,8 @@
 // Welded numbers, the area test and the root.
-ghost use Rattle.std.specs.Prelude.{◌≡◌};
-ghost use Rattle.area.specs.AreaTest.{area_number};
 ghost use Rattle.mesh.specs.Model.{model_of};
 ghost use Rattle.capi.specs.Nodes.{WeldExport, AreaExport, RootExport};
 
 use crate::answers;
-use area::Area;
 use mesh::{Checks, Model};
 
 // Welds the nodes that cells name: the map gets the welded numbers of all nodes.
@@ -30,17 +27,7 @@ pub extern "C" fn lenoshale_weld(
         checks: Checks(0),
         cap: 0,
     };
-    match welding::weld(&m, map, scratch) {
-        Err(e) => e.number() as u32,
-        Ok(()) => 0,
-    }
-}
-
-// The number of what the area test says.
-fn area_number(a: Area) -> u32
-    ensures { result ≡ area_number a }
-{
-    a as u32
+    answers::status(welding::weld(&m, map, scratch))
 }
 
 // The area test on nodes.
@@ -54,13 +41,11 @@ pub extern "C" fn lenoshale_area_test(
 ) -> u32
     ensures { AreaExport coords.now nodes.now tolerance says.old says.new result }
 {
-    match area::area_test(coords, nodes, tolerance) {
-        Err(e) => e.number() as u32,
-        Ok(a) => {
-            *says = area_number(a);
-            0
-        }
+    let tested = area::area_test(coords, nodes, tolerance);
+    if let Ok(a) = tested {
+        *says = u32::from(a);
     }
+    answers::status(tested)
 }
 
 // The root of x.

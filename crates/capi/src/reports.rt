@@ -1,6 +1,7 @@
 // The text of a report, and the program's whole run.
 ghost use Rattle.capi.specs.Reports.{ReportExport, RunExport};
 
+use crate::answers;
 use refusals::Refusal;
 
 // The text of the first `kept` records, or that there are no findings, as the program prints it; and its length in bytes.
@@ -16,13 +17,13 @@ pub extern "C" fn lenoshale_report(
 {
     let k = kept as usize;
     if findings.len() / 64 < k {
-        return Refusal::Room.number() as u32;
+        return answers::refused(Refusal::Room);
     }
     if out.len() < 64 {
-        return Refusal::Room.number() as u32;
+        return answers::refused(Refusal::Room);
     }
     if (out.len() - 64) / 128 < k {
-        return Refusal::Room.number() as u32;
+        return answers::refused(Refusal::Room);
     }
     let n = report_text::put_report(out, findings, total, k);
     *size = n as u64;
@@ -35,7 +36,7 @@ pub extern "C" fn lenoshale_run(input: &[u8], out: &mut [u8], size: &mut u64) ->
     ensures { RunExport input.now out.old out.new size.old size.new result }
 {
     if out.len() < 65600 {
-        return Refusal::Room.number() as u32;
+        return answers::refused(Refusal::Room);
     }
     let n = program::run(input, out);
     *size = n as u64;

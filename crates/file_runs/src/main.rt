@@ -12,10 +12,11 @@ fn run_on<R: Files + Print>(rt: &R, name: &str) -> io::Result<()> {
     program_io::run_between(&mut file, &mut io::writer(rt))
 }
 
+const INPUTS: [&str; 5] = ["empty", "longest", "longer", "findings-512", "findings-599"];
+
 fn main(rt: HostRuntime) -> io::Result<()> {
-    run_on(&rt, "empty")?;
-    run_on(&rt, "longest")?;
-    run_on(&rt, "longer")?;
-    run_on(&rt, "findings-512")?;
-    run_on(&rt, "findings-599")
+    for name in INPUTS {
+        run_on(&rt, name)?;
+    }
+    Ok(())
 }

@@ -1,5 +1,6 @@
 // The kinds of cells.
-ghost use Rattle.mesh.specs.Kinds.{KindRead};
+ghost use Rattle.std.specs.Prelude.{◌≡◌};
+ghost use Rattle.mesh.specs.Kinds.{kind_number, KindRead};
 
 use refusals::Refusal;
 
@@ -10,6 +11,14 @@ pub enum Kind {
     Hex8 = 2,
     Wedge6 = 3,
     Phed = 4,
+}
+
+impl From<Kind> for u8 {
+    ghost from_gives = { λ kind number. number ≡ kind_number kind };
+
+    fn from(kind: Kind) -> u8 {
+        kind as u8
+    }
 }
 
 impl TryFrom<u8> for Kind {

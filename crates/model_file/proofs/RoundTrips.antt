@@ -38,7 +38,7 @@ told_done (Ok b) a p = let h : b ≡ a = cc in ap Ok h
 -- ---- tables
 
 -- every number of a file's table is a refusal's
-file_numbered : (s : List ℕ) → Numbered (file_table s)
+pub file_numbered : (s : List ℕ) → Numbered (file_table s)
 file_numbered s = (λ e. omega arith, records_numbered Nodes (records s))
 
 -- a good file with room for its model is not refused

@@ -15,14 +15,14 @@ pub enum Letter {
     Last = 84,
 }
 
-impl Letter {
+impl From<Letter> for u8 {
     ghost use Rattle.std.specs.Prelude.{◌≡◌};
     ghost use Rattle.model_file.specs.Letters.{letter_byte};
 
-    pub fn byte(self) -> u8
-        ensures { result ≡ letter_byte self }
-    {
-        self as u8
+    ghost from_gives = { λ letter byte. byte ≡ letter_byte letter };
+
+    fn from(letter: Letter) -> u8 {
+        letter as u8
     }
 }
 

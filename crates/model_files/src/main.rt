@@ -5,19 +5,25 @@
 ghost use Rattle.std.specs.Prelude.{◌<◌};
 
 use mesh::Model;
-use model_file::Found;
 use refusals::Refusal;
 use std::io;
 use std::rt::Files;
 
-// What came of a file that was read: what it holds; writing's refusal, or whether the bytes are the same.
+// What came of writing back what was read: the bytes that were read, or others.
+#[derive(Clone, Copy, PartialEq, Eq)]
+enum Written {
+    Same,
+    Different,
+}
+
+// What came of a file that was read: what it holds; how it was written back.
 #[derive(Clone, Copy)]
 struct Outcome {
     nodes: usize,
     cells: usize,
     words: usize,
     sum: u64,
-    written: Result<bool, Refusal>,
+    written: Result<Written, Refusal>,
 }
 
 // A sum of numbers in which their order counts.
@@ -29,35 +35,28 @@ fn sum_of(l: &[u32], start: u64) -> u64 {
     sum
 }
 
-// Writes back what was read: whether the bytes written are s.
-fn write_back(s: &[u8], model: &Model) -> Result<bool, Refusal> {
+// Writes back what was read.
+fn write_back(s: &[u8], model: &Model) -> Result<Written, Refusal> {
     let mut out = [0u8; 65536];
     let n = model_write::write(model, &mut out)?;
-    Ok(out.get(..n) == Some(s))
+    if out.get(..n) == Some(s) {
+        Ok(Written::Same)
+    } else {
+        Ok(Written::Different)
+    }
 }
 
-// The model that was read, written back; none where its parts are longer than the lists.
-fn tried(
-    f: Found,
-    s: &[u8],
-    coords: &[f64],
-    kinds: &[u8],
-    ends: &[u32],
-    words: &[u32],
-) -> Option<Outcome> {
-    if coords.len() / 3 < f.nodes {
-        return None;
-    }
-    let model = Model {
-        coords: &coords[..3 * f.nodes],
-        kinds: kinds.get(..f.cells)?,
-        ends: ends.get(..f.cells)?,
-        words: words.get(..f.words)?,
-        tolerance: f.tolerance,
-        checks: f.checks,
-        cap: f.cap,
-    };
-    Some(Outcome {
+// Reads into lists of which the longest files need more, and writes back. A model that was read is in the lists.
+fn trial(s: &[u8]) -> Result<Outcome, Refusal> {
+    let mut coords = [0.0; 2000];
+    let mut kinds = [0u8; 400];
+    let mut ends = [0u32; 400];
+    let mut words = [0u32; 4000];
+    let f = model_read::read(s, &mut coords, &mut kinds, &mut ends, &mut words)?;
+    let model = f
+        .model(&coords, &kinds, &ends, &words)
+        .ok_or(Refusal::Room)?;
+    Ok(Outcome {
         nodes: f.nodes,
         cells: f.cells,
         words: f.words,
@@ -66,58 +65,39 @@ fn tried(
     })
 }
 
-// Reads into lists of which the longest files need more, and writes back.
-fn trial(s: &[u8]) -> Result<Option<Outcome>, Refusal> {
-    let mut coords = [0.0; 2000];
-    let mut kinds = [0u8; 400];
-    let mut ends = [0u32; 400];
-    let mut words = [0u32; 4000];
-    let f = model_read::read(s, &mut coords, &mut kinds, &mut ends, &mut words)?;
-    Ok(tried(f, s, &coords, &kinds, &ends, &words))
-}
-
 // ---- printing
 
-// What was read, and what came of writing it back.
-fn say_read(rt: &impl Print, t: Outcome) -> io::Result<()> {
+// A line's end: why reading refuses, or what was read, and what came of writing it back.
+fn say_outcome(rt: &impl Print, outcome: Result<Outcome, Refusal>) -> io::Result<()> {
+    let t = match outcome {
+        Err(e) => return println!(rt; " {e}"),
+        Ok(t) => t,
+    };
     print!(rt;
         " nodes {} cells {} words {} sum {}",
         t.nodes, t.cells, t.words, t.sum
     )?;
     match t.written {
         Err(e) => println!(rt; " not written {}", e.number()),
-        Ok(true) => println!(rt; " the same"),
-        Ok(false) => println!(rt; " DIFFERENT"),
+        Ok(Written::Same) => println!(rt; " the same"),
+        Ok(Written::Different) => println!(rt; " DIFFERENT"),
     }
 }
 
-fn say_outcome(rt: &impl Print, t: Result<Option<Outcome>, Refusal>) -> io::Result<()> {
-    match t {
-        Err(e) => println!(rt; " refused {}", e.number()),
-        Ok(None) => println!(rt; " refused 255"),
-        Ok(Some(t)) => say_read(rt, t),
+// The number that refuses, A for 10; reading and writing refuse with no higher one, which would be a question mark.
+fn digit(refused: Refusal) -> char {
+    match refused {
+        Refusal::Flags => 'A',
+        _ => char::from_digit(refused.number() as u32, 10).unwrap_or('?'),
     }
-}
-
-// The number that refuses (A for 10).
-fn digit(refused: Refusal) -> u8 {
-    let n = refused.number();
-    if n < 10 {
-        return b'0' + n;
-    }
-    if n == 10 { b'A' } else { b'?' }
 }
 
 // One letter for an outcome: the number that refuses, = for the same bytes, ! for others.
-fn letter(t: Result<Option<Outcome>, Refusal>) -> u8 {
-    match t {
+fn letter(outcome: Result<Outcome, Refusal>) -> char {
+    match outcome.and_then(|t| t.written) {
         Err(e) => digit(e),
-        Ok(None) => b'?',
-        Ok(Some(t)) => match t.written {
-            Err(e) => digit(e),
-            Ok(true) => b'=',
-            Ok(false) => b'!',
-        },
+        Ok(Written::Same) => '=',
+        Ok(Written::Different) => '!',
     }
 }
 
@@ -125,12 +105,11 @@ fn letter(t: Result<Option<Outcome>, Refusal>) -> u8 {
 
 // Published case n, where data/ has it.
 fn published<R: Files + Print>(rt: &R, n: usize) -> io::Result<()> {
-    let name = test_support::case_name(n, b"in ");
     let mut buf = [0u8; 65536];
-    let Some(s) = test_support::read_file(rt, &name[..12], &mut buf) else {
+    let Some(s) = test_support::read_case(rt, n, "in", &mut buf) else {
         return Ok(());
     };
-    test_support::say(rt, &name[..12])?;
+    print!(rt; "case-{n:04}.in")?;
     say_outcome(rt, trial(s))
 }
 
@@ -143,19 +122,15 @@ fn all_published<R: Files + Print>(rt: &R) -> io::Result<()> {
 
 // ---- damage
 
-fn say_letter(rt: &impl Print, s: &[u8]) -> io::Result<()> {
-    test_support::say(rt, &[letter(trial(s))])
-}
-
 // Each byte of s changed in turn, for one trial.
 fn damage_all(rt: &impl Print, s: &mut [u8], by: u8) -> io::Result<()> {
     for p in 0..s.len() {
         let b = s[p];
         s[p] = b.wrapping_add(by);
-        say_letter(rt, s)?;
+        print!(rt; "{}", letter(trial(s)))?;
         s[p] = b;
         if p % 32 == 31 {
-            test_support::say(rt, b"\n")?;
+            println!(rt; "")?;
         }
     }
     Ok(())
@@ -164,9 +139,9 @@ fn damage_all(rt: &impl Print, s: &mut [u8], by: u8) -> io::Result<()> {
 // The file cut short behind each record.
 fn cut_all(rt: &impl Print, s: &[u8]) -> io::Result<()> {
     for n in 0..s.len() / 32 + 1 {
-        say_letter(rt, &s[..32 * n])?;
+        print!(rt; "{}", letter(trial(&s[..32 * n])))?;
     }
-    test_support::say(rt, b"\n")
+    println!(rt; "")
 }
 
 fn damages(rt: &impl Print, s: &mut [u8]) -> io::Result<()> {
@@ -177,12 +152,11 @@ fn damages(rt: &impl Print, s: &mut [u8]) -> io::Result<()> {
 }
 
 fn damaged<R: Files + Print>(rt: &R) -> io::Result<()> {
-    let name = b"good.in";
-    test_support::say(rt, name)?;
+    print!(rt; "good.in")?;
     let mut buf = [0u8; 65536];
-    match test_support::read_file(rt, name, &mut buf) {
+    match test_support::read_file(rt, "good.in", &mut buf) {
         Some(s) => damages(rt, s),
-        None => test_support::say(rt, b" is not there\n"),
+        None => println!(rt; " is not there"),
     }
 }
 

@@ -6,7 +6,6 @@ ghost use Rattle.std.proofs.lemmas.List.Edits.{sets};
 ghost use Rattle.laws.specs.Bytes.{bytes};
 ghost use Rattle.laws.specs.Lists.{All, each};
 ghost use Rattle.mesh.specs.Model.{cells_of};
-ghost use Rattle.mesh.specs.Kinds.{kind_number};
 ghost use Rattle.mesh.specs.Lent.{lent};
 ghost use Rattle.mesh.specs.CellsRest.{cell_raw};
 ghost use Rattle.model_file.specs.Held.{Fits, Held};
@@ -16,7 +15,7 @@ ghost use Rattle.model_file.specs.File.{node_records, cell_records};
 ghost use Rattle.model_file.specs.Steps.{join};
 ghost use Rattle.model_file.specs.Writing.{Writing};
 
-use mesh::{Accepted, Cell, Checks, Kind, Model};
+use mesh::{Accepted, Cell, Checks, Model};
 use model_file::Letter;
 use refusals::Refusal;
 
@@ -27,7 +26,7 @@ fn node_record(x: f64, y: f64, z: f64) -> [u8; 32]
     ensures { result ≡ node_record x y z }
 {
     let mut r = [0; 32];
-    r[0] = Letter::Node.byte();
+    r[0] = u8::from(Letter::Node);
     floats::put(&mut r, 8, x);
     floats::put(&mut r, 16, y);
     floats::put(&mut r, 24, z);
@@ -39,7 +38,7 @@ fn last_record(checks: Checks, cap: u16, tolerance: f64) -> [u8; 32]
     ensures { result ≡ last_record checks.0 cap tolerance }
 {
     let mut r = [0; 32];
-    r[0] = Letter::Last.byte();
+    r[0] = u8::from(Letter::Last);
     r[1] = checks.0;
     floats::put(&mut r, 2, cap);
     floats::put(&mut r, 8, tolerance);
@@ -53,7 +52,8 @@ fn low_bits(w: u32) -> u16
     (w % 0x1_0000) as u16
 }
 
-// N words from the j-th on, as two bytes each, the first of all at byte 4.
+// N words from the j-th on, as two bytes each, the first of all at byte 4. N is a constant: with one loop over the words writing
+// a file takes up to 1.12 times the instructions.
 fn put_some<const N: usize>(r: &mut [u8; 32], words: &[u32], j: usize)
     requires { (j + N ≤ length words.now) × (length words.now ≤ 14) }
     ensures { r.new ≡ sets r.old (4 + 2 * j) (word_bytes (take N (drop j words.now))) }
@@ -99,7 +99,7 @@ fn word_record(letter: Letter, kind: u8, words: &[u32]) -> [u8; 32]
     ensures { result ≡ word_record (letter_byte letter) kind words.now }
 {
     let mut r = [0; 32];
-    r[0] = letter.byte();
+    r[0] = u8::from(letter);
     r[1] = kind;
     r[2] = words.len() as u8;
     put_words(&mut r, words);
@@ -119,13 +119,6 @@ fn put_nodes(out: &mut [u8], coords: &[f64])
     }
 }
 
-// A kind's number in the list of kinds.
-fn number_of(kind: Kind) -> u8
-    ensures { result ≡ kind_number kind }
-{
-    kind as u8
-}
-
 // A cell: C, then as many K as its further words need; the place after them.
 fn put_cell(out: &mut [u8], at: usize, cell: &Cell) -> usize
     requires { at + 32 * (1 + (length cell.now.words.now - 1) / 14) ≤ length out.old }
@@ -136,7 +129,7 @@ fn put_cell(out: &mut [u8], at: usize, cell: &Cell) -> usize
     floats::put(
         out,
         at,
-        word_record(Letter::Cell, number_of(cell.kind), first),
+        word_record(Letter::Cell, u8::from(cell.kind), first),
     );
     let mut p = at + 32;
     for part in rest.chunks(14) {
@@ -177,7 +170,7 @@ fn put_cells(out: &mut [u8], at: usize, model: &Accepted)
 
 // ---- the file
 
-// What the types of these values say of them.
+// What the types of these values say of them. Of a model behind a reference an answer has no name for it.
 fn held(coords: &[f64], tolerance: f64, cap: u16)
     ensures { All Fits coords.now × Fits tolerance × (cap < 65536) }
 {}

@@ -10,6 +10,6 @@ use std::io;
 
 fn main(rt: HostRuntime) -> io::Result<()> {
     roots::run(&rt)?;
-    lists::run(&rt, b"welds", lists::Kind::Welds)?;
-    lists::run(&rt, b"areas", lists::Kind::Areas)
+    lists::run(&rt, "welds", welds::agrees)?;
+    lists::run(&rt, "areas", areas::agrees)
 }

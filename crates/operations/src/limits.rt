@@ -3,45 +3,47 @@
 // The list has for each model 24 bytes: the length of its name, how many coordinates, kinds, ends and words stand here, the flags, two
 // that are zero, the number of all coordinates in four (those that don't stand here are 0), four that are zero, the tolerance; then the
 // name and these, ends and words in four bytes each.
-ghost use Rattle.std.specs.Prelude.{◌<◌, ◌≤◌, length, IfSome};
+ghost use Rattle.std.specs.Prelude.{◌<◌, length, IfSome};
 
 use crate::nodes;
 use mesh::{Checks, Model};
-use std::io;
+use refusals::Refusal;
 use std::rt::Files;
+use std::{io, str};
+use test_support::{Entries, Entry};
 
 // A model of the list: what stands before its name, the name, and the lists, as bytes.
 #[derive(Clone, Copy)]
-struct Entry<'a> {
+struct Listed<'a> {
     head: &'a [u8; 24],
-    name: &'a [u8],
+    name: &'a str,
     coords: &'a [u8],
     kinds: &'a [u8],
     ends: &'a [u8],
     words: &'a [u8],
 }
 
-// The first model of a list, and the list behind it; none where it is cut short.
-fn split_first(list: &[u8]) -> Option<(Entry<'_>, &[u8])>
-    ensures { IfSome result (λ p. length p.1.now < length list.now) }
-{
-    let (head, rest) = list.split_first_chunk::<24>()?;
-    let (name, rest) = rest.split_at_checked(head[0] as usize)?;
-    let (coords, rest) = rest.split_at_checked(8 * head[1] as usize)?;
-    let (kinds, rest) = rest.split_at_checked(head[2] as usize)?;
-    let (ends, rest) = rest.split_at_checked(4 * head[3] as usize)?;
-    let (words, rest) = rest.split_at_checked(4 * head[4] as usize)?;
-    Some((
-        Entry {
-            head,
-            name,
-            coords,
-            kinds,
-            ends,
-            words,
-        },
-        rest,
-    ))
+impl<'a> Entry<'a> for Listed<'a> {
+    fn split_first(list: &'a [u8]) -> Option<(Listed<'a>, &'a [u8])> {
+        let (head, rest) = list.split_first_chunk::<24>()?;
+        let (name, rest) = rest.split_at_checked(head[0] as usize)?;
+        let (coords, rest) = rest.split_at_checked(8 * head[1] as usize)?;
+        let (kinds, rest) = rest.split_at_checked(head[2] as usize)?;
+        let (ends, rest) = rest.split_at_checked(4 * head[3] as usize)?;
+        let (words, rest) = rest.split_at_checked(4 * head[4] as usize)?;
+        let name = str::from_utf8(name).ok()?;
+        Some((
+            Listed {
+                head,
+                name,
+                coords,
+                kinds,
+                ends,
+                words,
+            },
+            rest,
+        ))
+    }
 }
 
 // What acceptance says of a model.
@@ -50,7 +52,7 @@ fn refusal(model: &Model) -> u64 {
 }
 
 // The same of a model of the list, of which no more is taken than the lists here hold.
-fn judge(m: &Entry) -> u64 {
+fn judge(m: &Listed) -> u64 {
     let mut coords = [0.0f64; 196608];
     let mut ends = [0u32; 65];
     let mut words = [0u32; 65];
@@ -73,50 +75,105 @@ fn judge(m: &Entry) -> u64 {
 
 // A line for each model of the list.
 fn judge_all(rt: &impl Print, list: &[u8]) -> io::Result<()> {
-    let mut rest = list;
-    // no `for`: how long a model is stands in it
-    while 24 <= rest.len() {
-        let Some((m, behind)) = split_first(rest) else {
-            return test_support::tell(rt, b"a model cut short", 255);
-        };
-        test_support::tell(rt, m.name, judge(&m))?;
-        rest = behind;
+    for entry in Entries::<Listed>::new(list) {
+        match entry {
+            Ok(m) => println!(rt; "{} {}", m.name, judge(&m))?,
+            Err(_) => println!(rt; "a model cut short")?,
+        }
     }
     Ok(())
 }
 
-// What filling ring lists of so many words, with so many words of work, says: R is 12, F 4, the work needed 168.
-fn fill(rt: &impl Print, name: &[u8], list: usize, room: usize, flags: u8) -> io::Result<()>
-    requires { (list ≤ 13) × (room ≤ 169) }
-{
-    let mut raw = [7u32; 13];
-    let mut welded = [7u32; 13];
-    let mut work = [7u32; 169];
-    let m = nodes::tetrahedron(flags);
-    match ring_lists::fill_ring_lists(&m, &mut raw[..list], &mut welded, &mut work[..room]) {
-        Err(e) => test_support::tell(rt, name, e.number() as u64),
-        Ok(n) => {
-            test_support::say(rt, name)?;
-            test_support::tell(rt, b" filled", n as u64)
-        }
-    }
+// ---- ring lists
+
+// The words of the tetrahedron's ring lists, and the words of work that filling them needs: R is 12, F 4, C 1, N 4 and M 4.
+const RING_WORDS: usize = 12;
+
+const WORK: usize = 168;
+
+// A trial of filling ring lists: how long the raw list and the work are, and the flags.
+#[derive(Clone, Copy)]
+struct Fill {
+    name: &'static str,
+    list: usize,
+    work: usize,
+    checks: Checks,
 }
 
-// 11, then 4.
-fn fills(rt: &impl Print) -> io::Result<()> {
-    fill(rt, b"lists of 12 words, work of 168", 12, 168, 3)?;
-    fill(rt, b"lists of 13 words, work of 169", 13, 169, 3)?;
-    fill(rt, b"work of 167", 12, 167, 3)?;
-    fill(rt, b"no work", 12, 0, 3)?;
-    fill(rt, b"a list of 11 words", 11, 168, 3)?;
-    fill(rt, b"a list of 11 words, work of 167", 11, 167, 3)?;
-    fill(rt, b"work of 167, flags 4", 12, 167, 4)
+// Filled twice, then refused with 11, 11, 4, 11 and 10.
+const FILLS: [Fill; 7] = [
+    Fill {
+        name: "lists of 12 words, work of 168",
+        list: RING_WORDS,
+        work: WORK,
+        checks: Checks::ALL,
+    },
+    Fill {
+        name: "lists of 13 words, work of 169",
+        list: RING_WORDS + 1,
+        work: WORK + 1,
+        checks: Checks::ALL,
+    },
+    Fill {
+        name: "work of 167",
+        list: RING_WORDS,
+        work: WORK - 1,
+        checks: Checks::ALL,
+    },
+    Fill {
+        name: "no work",
+        list: RING_WORDS,
+        work: 0,
+        checks: Checks::ALL,
+    },
+    Fill {
+        name: "a list of 11 words",
+        list: RING_WORDS - 1,
+        work: WORK,
+        checks: Checks::ALL,
+    },
+    Fill {
+        name: "a list of 11 words, work of 167",
+        list: RING_WORDS - 1,
+        work: WORK - 1,
+        checks: Checks::ALL,
+    },
+    Fill {
+        name: "work of 167, flags 4",
+        list: RING_WORDS,
+        work: WORK - 1,
+        checks: nodes::TOO_MANY,
+    },
+];
+
+// What filling says: the words filled, or the refusal; none where the trial asks for longer lists than stand here.
+fn filled(trial: &Fill) -> Option<Result<u32, Refusal>> {
+    let mut raw = [7u32; RING_WORDS + 1];
+    let mut welded = [7u32; RING_WORDS + 1];
+    let mut work = [7u32; WORK + 1];
+    let raw = raw.get_mut(..trial.list)?;
+    let work = work.get_mut(..trial.work)?;
+    let m = nodes::tetrahedron(trial.checks);
+    Some(ring_lists::fill_ring_lists(&m, raw, &mut welded, work))
+}
+
+// A line for each trial.
+fn fill_all(rt: &impl Print) -> io::Result<()> {
+    for trial in &FILLS {
+        let name = trial.name;
+        match filled(trial) {
+            Some(Ok(n)) => println!(rt; "{name} filled {n}")?,
+            Some(Err(e)) => println!(rt; "{name} {}", e.number())?,
+            None => println!(rt; "{name} is too long")?,
+        }
+    }
+    Ok(())
 }
 
 pub fn run<R: Files + Print>(rt: &R) -> io::Result<()> {
     let mut buf = [0u8; 65536];
-    if let Some(list) = test_support::read_file(rt, b"limits", &mut buf) {
+    if let Some(list) = test_support::read_file(rt, "limits", &mut buf) {
         judge_all(rt, list)?;
     }
-    fills(rt)
+    fill_all(rt)
 }

@@ -10,15 +10,18 @@ const ENDS: [u32; 2] = [4, 11];
 
 const WORDS: [u32; 11] = [0, 1, 2, 3, 0, 1, 2, mesh::SEPARATOR, 2, 1, 0];
 
+// Flags that are refused.
+pub const TOO_MANY: Checks = Checks(4);
+
 // The tetrahedron alone.
-pub fn tetrahedron(flags: u8) -> Model<'static> {
+pub fn tetrahedron(checks: Checks) -> Model<'static> {
     Model {
         coords: &CORNERS,
         kinds: &KINDS[..1],
         ends: &ENDS[..1],
         words: &WORDS[..4],
         tolerance: 0.0,
-        checks: Checks(flags),
+        checks,
         cap: 0,
     }
 }
@@ -31,7 +34,7 @@ pub fn both() -> Model<'static> {
         ends: &ENDS,
         words: &WORDS,
         tolerance: 0.0,
-        checks: Checks(3),
+        checks: Checks::ALL,
         cap: 0,
     }
 }

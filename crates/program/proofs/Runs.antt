@@ -8,36 +8,31 @@ use native.Mathlib.Omega.{arith}
 use borrow.Author.Tests.{eqb-true, eqb-false, ne_eqb, lt-ltb, le-ltb}
 use lib.Dec.{eqb}
 use lib.Ieee.{Float}
-use lib.ListN.{length, take, drop, replicate, length-append}
-use lib.Seq.{take_at}
+use lib.ListN.{length, take, replicate, length-take}
 use Rattle.std.specs.Prelude.{Ok, Err}
 use Rattle.laws.specs.Limits.{input_limit, program_work}
 use Rattle.laws.specs.Refusals.{refusal, filled}
-use Rattle.laws.proofs.Tables.{Numbered, refusal_first, refusal_second, unfilled, answered_done, answered_refused}
+use Rattle.laws.proofs.Tables.{refusal_first, refusal_second, unfilled, answered_done, answered_refused}
 use Rattle.refusals.specs.declared.Refusal.{Refusal}
 use Rattle.refusals.specs.Told.{number}
-use Rattle.model_file.proofs.Judgement.{records_numbered}
+use Rattle.model_file.proofs.Counts.{threes, ends_as_cells}
+use Rattle.model_file.proofs.RoundTrips.{file_numbered, model_read}
 use Rattle.laws.proofs.Tests.{tested}
-use Rattle.mesh.specs.Model.{Model, model_of}
+use Rattle.mesh.specs.Model.{Model}
 use Rattle.mesh.specs.Acceptance.{check_table, work_needed}
 use Rattle.model_file.specs.File.{records, file_table, decode, length_off}
-use Rattle.model_file.specs.Reading.{room_off, read_refusal, found_in, Reading}
+use Rattle.model_file.specs.Reading.{room_off, read_refusal, found_in, model_in, Within, Reading}
 use Rattle.model_file.specs.Steps.{judge}
 use Rattle.model_file.specs.declared.Found.{Found}
 use Rattle.model_file.specs.declared.Stage.TheVariants.{Nodes}
-use Rattle.model_read.proofs.FillPass.{ends_as_cells}
 use Rattle.report.specs.Text.{refused_line}
 use Rattle.report.specs.Program.{report_of, output}
 use Rattle.report_text.specs.Stored.{Stored}
 use Rattle.program.specs.Running.{kept_in, Lists, input_refusal, program_refusal, Running}
-use Rattle.program.specs.Steps.{checked_refusal, model_text, Parts, Reporting}
-use Rattle.program.proofs.Sizes.{threes, room}
+use Rattle.program.specs.Steps.{checked_refusal, model_text, Reporting}
+use Rattle.program.proofs.Sizes.{room}
 
 -- ---- the tables
-
--- every number of a file's table is a refusal's
-file_numbered : (s : List ℕ) → Numbered (file_table s)
-file_numbered s = (λ e. omega arith, records_numbered Nodes (records s))
 
 -- a file that is not refused has records that are not
 records_right : (b : Bool) (n : ℕ) → cond b 1 n ≡ 0 → n ≡ 0
@@ -125,17 +120,9 @@ module _ (s : List ℕ) (coords coords' : List Float) (kinds kinds' ends ends' w
 
 -- ---- a model that was read
 
--- what a list holds in front, where nothing was refused
-in_front : {A : Type 0} (n : ℕ) (xs l l' : List A) → n ≡ 0 → l' ≡ filled n xs l → l' ≡ xs ++ drop (length xs) l
-in_front n xs l l' z e = e ∙ ap (λ (k : ℕ). filled k xs l) z
-
--- it is at least as long as that
-in_front_length : {A : Type 0} (xs l l' : List A) (k : ℕ) → k ≡ length xs → l' ≡ xs ++ drop (length xs) l → k ≤ length l'
-in_front_length xs l l' k n e = omega (arith, ap length e, length-append xs (drop (length xs) l))
-
--- and the part that is filled is that
-in_front_part : {A : Type 0} (xs l l' : List A) (k : ℕ) → k ≡ length xs → l' ≡ xs ++ drop (length xs) l → take k l' ≡ xs
-in_front_part xs l l' k n e = ap (take k) e ∙ take_at xs (drop (length xs) l) k (sym n)
+-- a list is as long as what its first part holds
+fits : {A : Type 0} (k : ℕ) (xs l : List A) → k ≡ length xs → take k l ≡ xs → k ≤ length l
+fits k xs l n e = omega (arith, length-take k l, ap length e)
 
 module _ (s : List ℕ) (coords coords' : List Float) (kinds kinds' ends ends' words words' : List ℕ) (l : Lists (length coords) (length kinds) (length ends) (length words)) (h : length s ≤ input_limit)
     (f : Found) (c : Reading s coords coords' kinds kinds' ends ends' words words' (Ok f)) where
@@ -147,21 +134,9 @@ module _ (s : List ℕ) (coords coords' : List Float) (kinds kinds' ends ends' w
   file_right : refusal (file_table s) ≡ 0
   file_right = sym (reads_as s coords kinds ends words l h) ∙ found.0
 
-  -- the coordinates stand in front of their list
-  coords_front : coords' ≡ (decode s).coords ++ drop (length (decode s).coords) coords
-  coords_front = in_front (read_refusal s coords kinds ends words) (decode s).coords coords coords' found.0 c.memory.coords_are
-
-  -- the kinds of theirs
-  kinds_front : kinds' ≡ (decode s).kinds ++ drop (length (decode s).kinds) kinds
-  kinds_front = in_front (read_refusal s coords kinds ends words) (decode s).kinds kinds kinds' found.0 c.memory.kinds_are
-
-  -- the ends of theirs
-  ends_front : ends' ≡ (decode s).ends ++ drop (length (decode s).ends) ends
-  ends_front = in_front (read_refusal s coords kinds ends words) (decode s).ends ends ends' found.0 c.memory.ends_are
-
-  -- the words of theirs
-  words_front : words' ≡ (decode s).words ++ drop (length (decode s).words) words
-  words_front = in_front (read_refusal s coords kinds ends words) (decode s).words words words' found.0 c.memory.words_are
+  -- the filled parts are the model of the file
+  same_model : model_in f coords' kinds' ends' words' ≡ decode s
+  same_model = model_read s coords coords' kinds kinds' ends ends' words words' f c
 
   -- the nodes found are all coordinates, in threes
   coords_count : 3 * f.nodes ≡ length (decode s).coords
@@ -177,29 +152,14 @@ module _ (s : List ℕ) (coords coords' : List Float) (kinds kinds' ends ends' w
   unfolding decode
   ends_count = kinds_count ∙ sym (ends_as_cells (records s) (records_right (length_off (length s)) (judge Nodes (records s)) file_right))
 
-  -- the words found are all words
-  words_count : f.words ≡ length (decode s).words
-  words_count = ap (λ (x : Found). x.words) found.1
-
   -- what was found fits the lists
-  pub found_fits : Parts f (length coords') (length kinds') (length ends') (length words')
-  found_fits =
-      record {
-        coords_fit = in_front_length (decode s).coords coords coords' (3 * f.nodes) coords_count coords_front;
-        kinds_fit = in_front_length (decode s).kinds kinds kinds' f.cells kinds_count kinds_front;
-        ends_fit = in_front_length (decode s).ends ends ends' f.cells ends_count ends_front;
-        words_fit = in_front_length (decode s).words words words' f.words words_count words_front;
-      }
-
-  -- the filled parts are the model of the file
-  same_model : model_of (take (3 * f.nodes) coords') (take f.cells kinds') (take f.cells ends') (take f.words words') f.tolerance f.checks.0 f.cap ≡ decode s
-  unfolding decode
-  same_model =
-      let cs = in_front_part (decode s).coords coords coords' (3 * f.nodes) coords_count coords_front in
-      let ks = in_front_part (decode s).kinds kinds kinds' f.cells kinds_count kinds_front in
-      let es = in_front_part (decode s).ends ends ends' f.cells ends_count ends_front in
-      let ws = in_front_part (decode s).words words words' f.words words_count words_front in
-      λ i. model_of (cs i) (ks i) (es i) (ws i) (found.1 i).tolerance (found.1 i).checks.0 (found.1 i).cap
+  pub found_fits : Within f (length coords') (length kinds') (length ends') (length words')
+  found_fits = (
+    fits (3 * f.nodes) (decode s).coords coords' coords_count (ap (λ (m : Model). m.coords) same_model),
+    fits f.cells (decode s).kinds kinds' kinds_count (ap (λ (m : Model). m.kinds) same_model),
+    fits f.cells (decode s).ends ends' ends_count (ap (λ (m : Model). m.ends) same_model),
+    fits f.words (decode s).words words' (ap (λ (x : Found). x.words) found.1) (ap (λ (m : Model). m.words) same_model),
+  )
 
   -- why it is not reported: checking's refusal
   program_no : program_refusal s ≡ checked_refusal (decode s)
@@ -212,7 +172,7 @@ module _ (s : List ℕ) (coords coords' : List Float) (kinds kinds' ends ends' w
 
   -- a model read and checked: its report
   pub checked : (findings findings' work work' out out' : List ℕ) (r : ℕ)
-      → Reporting (model_of (take (3 * f.nodes) coords') (take f.cells kinds') (take f.cells ends') (take f.words words') f.tolerance f.checks.0 f.cap) findings findings' work work' out out' r
+      → Reporting (model_in f coords' kinds' ends' words') findings findings' work work' out out' r
       → Running s coords coords' kinds kinds' ends ends' words words' findings findings' work work' out out' r
   checked findings findings' work work' out out' r q =
       let p = subst (λ (m : Model). Reporting m findings findings' work work' out out' r) same_model q in

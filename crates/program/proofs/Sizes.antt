@@ -1,5 +1,5 @@
 -- What a file of at most 1,024 records decodes to, three coordinates, a cell or 14 words a record; and arrays of the sizes lent.
-use Prim.Native.Nat.{ℕ, zero, suc, ◌*◌, ◌/◌, ◌%◌, ◌≤◌}
+use Prim.Native.Nat.{ℕ, zero, suc, ◌*◌, ◌/◌, ◌≤◌}
 use mathlib.Core.Path.{◌≡◌, refl, ap}
 use mathlib.Core.Bool.{false}
 use mathlib.Core.List.{List, [], ◌∷◌}
@@ -8,38 +8,22 @@ use borrow.Author.Tests.{le-ltb}
 use lib.Dec.{ltb}
 use lib.Ieee.{Float}
 use lib.ListN.{length, drop, replicate, length-append, length-replicate}
-use Rattle.std.specs.Prelude.{Option, Some, None}
 use Rattle.laws.specs.Limits.{input_limit}
 use Rattle.model_file.specs.Records.{letter, coords_in, kinds_in, words_in, stage}
 use Rattle.model_file.specs.File.{chop, records, coords_of, kinds_of, words_of, ends_of, decode}
 use Rattle.model_file.specs.Reading.{room_off}
 use Rattle.model_file.specs.Steps.{judge}
-use Rattle.model_file.specs.declared.Letter.{Letter}
-use Rattle.model_file.specs.declared.Letter.TheVariants.{Node, Cell, More, Last}
 use Rattle.model_file.specs.declared.Stage.{Stage}
 use Rattle.model_file.specs.declared.Stage.TheVariants.{Nodes}
 use Rattle.model_file.proofs.Judgement.{passed}
+use Rattle.model_file.proofs.Counts.{ends_as_cells}
 use Rattle.model_read.proofs.JudgePass.{little}
-use Rattle.model_read.proofs.FillPass.{ends_as_cells}
 use Rattle.program.specs.Running.{Lists, Memory}
 
 -- so many records are cut
 chop_length : (n : ℕ) (s : List ℕ) → length (chop n s) ≡ n
 chop_length zero s = refl
 chop_length (suc n) s = ap suc (chop_length n (drop 32 s))
-
--- a record adds three coordinates or none
-threes_in : (l : Option Letter) (r : List ℕ) → length (coords_in l r) % 3 ≡ 0
-threes_in (Some Node) r = refl
-threes_in (Some Cell) r = refl
-threes_in (Some More) r = refl
-threes_in (Some Last) r = refl
-threes_in None r = refl
-
--- so coordinates come in threes
-pub threes : (rs : List (List ℕ)) → length (coords_of rs) % 3 ≡ 0
-threes [] = refl
-threes (r ∷ rs) = omega (arith, length-append (coords_in (letter r) r) (coords_of rs), threes_in (letter r) r, threes rs)
 
 -- what records that are not refused add is little
 record Few (rs : List (List ℕ)) : Type 0 where

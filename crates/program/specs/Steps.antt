@@ -1,10 +1,9 @@
 -- For internal contracts: the text of an answer, and a model that is checked and reported.
-use Rattle.std.specs.Prelude.{ℕ, ◌*◌, ◌≤◌, cond, List, ◌≡◌, eqb, length, replicate}
+use Rattle.std.specs.Prelude.{ℕ, ◌≤◌, cond, List, ◌≡◌, eqb, length, replicate}
 use Rattle.laws.specs.Limits.{program_work}
 use Rattle.laws.specs.Refusals.{Answer, refused, done, refusal, filled}
 use Rattle.mesh.specs.Model.{Model}
 use Rattle.mesh.specs.Acceptance.{check_table, work_needed}
-use Rattle.model_file.specs.declared.Found.{Found}
 use Rattle.findings.specs.declared.Totals.{Totals}
 use Rattle.report.specs.Text.{refused_line, report_text}
 use Rattle.report.specs.Program.{report_of}
@@ -23,13 +22,6 @@ checked_refusal m = refusal (check_table m program_work)
 -- the text of a model
 unfoldable pub model_text : Model → List ℕ
 model_text m = cond (eqb (checked_refusal m) 0) (report_of m) (refused_line (checked_refusal m))
-
--- what was found in a file fits lists of these lengths
-pub record Parts (f : Found) (coords kinds ends words : ℕ) : Type 0 where
-  pub coords_fit : 3 * f.nodes ≤ coords
-  pub kinds_fit : f.cells ≤ kinds
-  pub ends_fit : f.cells ≤ ends
-  pub words_fit : f.words ≤ words
 
 -- a model's report: its text in the output, its records in front of the findings, the work that it needed zero
 pub record Reporting (m : Model) (findings findings' work work' out out' : List ℕ) (r : ℕ) : Type 0 where

@@ -2,27 +2,10 @@
 #![tactic(auto)]
 
 ghost use Rattle.std.specs.Prelude.{◌≤◌, ◌<◌, length};
-ghost use Rattle.std.specs.Io.{ReadsAtMost};
 ghost use Rattle.laws.specs.Limits.{input_limit};
 
 use std::io;
 use std::io::{Read, Write};
-
-// Reads to the front of buf until it is full or the input ends.
-fn read_full<R: Read>(input: &mut R, buf: &mut [u8]) -> io::Result<usize>
-    ensures { ReadsAtMost result buf.new }
-{
-    let mut done = 0;
-    // no `for`: a read gives as many bytes as there are at hand
-    while done < buf.len() {
-        let n = input.read(&mut buf[done..])?;
-        if n == 0 {
-            break;
-        }
-        done += n;
-    }
-    Ok(done)
-}
 
 // In lent arrays. There is room for more bytes than are judged, so that a longer input is seen to be one.
 fn run_in<R: Read, W: Write>(
@@ -33,7 +16,7 @@ fn run_in<R: Read, W: Write>(
 ) -> io::Result<()>
     requires { (input_limit < length bytes.old) × (65600 ≤ length out.old) }
 {
-    let got = read_full(input, bytes)?;
+    let got = full_reads::read_full(input, bytes)?;
     let n = program::run(&bytes[..got], out);
     output.write_all(&out[0..n])
 }

@@ -22,19 +22,19 @@ struct Tally {
     faces: u64,
 }
 
-// The file is s.
-fn is_file(rt: &impl Files, name: &[u8], s: &[u8]) -> bool {
+// The file of case n with that ending is s.
+fn is_file(rt: &impl Files, n: usize, ending: &str, s: &[u8]) -> bool {
     let mut buf = [0u8; 65601];
-    match test_support::read_file(rt, name, &mut buf) {
+    match test_support::read_case(rt, n, ending, &mut buf) {
         Some(file) => *file == *s,
         None => false,
     }
 }
 
-// The file stands in front of s, and all behind it is as it was.
-fn is_front(rt: &impl Files, name: &[u8], s: &[u8]) -> bool {
+// That file stands in front of s, and all behind it is as it was.
+fn is_front(rt: &impl Files, n: usize, ending: &str, s: &[u8]) -> bool {
     let mut buf = [0u8; 65601];
-    let Some(file) = test_support::read_file(rt, name, &mut buf) else {
+    let Some(file) = test_support::read_case(rt, n, ending, &mut buf) else {
         return false;
     };
     match s.strip_prefix(file) {
@@ -49,8 +49,8 @@ fn compared(rt: &impl Files, n: usize, input: &[u8], ways: bool) -> Agrees {
     let mut out = [0u8; 65600];
     let printed = lent::run_model(input, &mut findings, &mut out);
     Agrees {
-        output: is_file(rt, &test_support::case_name(n, b"out"), printed),
-        records: is_front(rt, &test_support::case_name(n, b"rec"), &findings),
+        output: is_file(rt, n, "out", printed),
+        records: is_front(rt, n, "rec", &findings),
         ways,
     }
 }
@@ -61,36 +61,34 @@ fn tell(rt: &impl Print, n: usize, a: Agrees) -> io::Result<()> {
     if agree {
         return Ok(());
     }
-    let name = test_support::case_name(n, b"in ");
-    test_support::say(rt, &name[..9])?;
+    print!(rt; "case-{n:04}")?;
     if !a.output {
-        test_support::say(rt, b": the output differs")?;
+        print!(rt; ": the output differs")?;
     }
     if !a.records {
-        test_support::say(rt, b": the records differ")?;
+        print!(rt; ": the records differ")?;
     }
     if !a.ways {
-        test_support::say(rt, b": the ways differ")?;
+        print!(rt; ": the ways differ")?;
     }
-    test_support::say(rt, b"\n")
+    println!(rt; "")
 }
 
 // Case n, where data/ has it.
 fn replay<R: Files + Print>(rt: &R, n: usize, t: Tally) -> io::Result<Tally> {
-    let name = test_support::case_name(n, b"in ");
     let mut buf = [0u8; 65536];
-    let Some(input) = test_support::read_file(rt, &name[..12], &mut buf) else {
+    let Some(input) = test_support::read_case(rt, n, "in", &mut buf) else {
         return Ok(t);
     };
-    let s = ways::by_either(input);
-    let a = compared(rt, n, input, s.alike);
+    let sought = ways::by_either(input);
+    let a = compared(rt, n, input, sought.is_some());
     tell(rt, n, a)?;
     Ok(Tally {
         cases: test_support::more(t.cases, true),
         outputs: test_support::more(t.outputs, a.output),
         records: test_support::more(t.records, a.records),
         ways: test_support::more(t.ways, a.ways),
-        faces: t.faces.wrapping_add(s.faces),
+        faces: t.faces.wrapping_add(sought.unwrap_or(0)),
     })
 }
 

@@ -1,11 +1,12 @@
 // Recorded models, compared by their finding records with the Rust's answers, and by either way of seeking: a line for each of the
 // many that differs and one with the counts, then a line for each pin, by its name.
-ghost use Rattle.std.specs.Prelude.{◌<◌, length, IfSome};
+ghost use Rattle.std.specs.Prelude.{◌<◌, ◌≤◌, length, IfSome};
 
 use crate::{lent, ways};
 use records::Kind;
-use std::io;
 use std::rt::Files;
+use std::{io, str};
+use test_support::{Entries, Entry};
 
 // How many models were run, of how many the records and the ways agree, and how many faces were sought each way.
 #[derive(Clone, Copy, Default)]
@@ -17,38 +18,36 @@ struct Tally {
 
 // A recorded model: its file, and the records.
 #[derive(Clone, Copy)]
-struct Entry<'a> {
+struct Recorded<'a> {
     model: &'a [u8],
     records: &'a [u8],
 }
 
 // ---- records
 
+const OVERFULL: u8 = Kind::Overfull as u8;
+
+const PARTLY_SHARED: u8 = Kind::PartlyShared as u8;
+
 // The end of the fields from byte 12 on that the Rust does not have: a and b of an overfull face, those and the count of a pair.
-fn untold_end(kind: u8) -> usize {
-    if kind == Kind::Overfull as u8 {
-        return 20;
-    }
-    if kind == Kind::PartlyShared as u8 {
-        24
-    } else {
-        12
+fn untold_end(kind: u8) -> usize
+    ensures { (12 ≤ result) × (result ≤ 64) }
+{
+    match kind {
+        OVERFULL => 20,
+        PARTLY_SHARED => 24,
+        _ => 12,
     }
 }
 
 // The records agree; theirs is zero in a field that the Rust does not have.
 fn same_record(ours: &[u8], theirs: &[u8]) -> bool {
-    let Some(kind) = ours.first() else {
+    let Some(ours) = ours.first_chunk::<64>() else {
         return false;
     };
-    let untold = 12..untold_end(*kind);
-    for (i, (a, b)) in ours.iter().zip(theirs).enumerate() {
-        let told = if untold.contains(&i) { 0 } else { *a };
-        if told != *b {
-            return false;
-        }
-    }
-    true
+    let mut told = *ours;
+    told[12..untold_end(ours[0])].fill(0);
+    theirs == told.as_slice()
 }
 
 // Their records stand in front of the bytes, and all behind them is as it was.
@@ -59,12 +58,8 @@ fn is_front(bytes: &[u8], theirs: &[u8]) -> bool {
     let Some((ours, behind)) = bytes.split_at_checked(theirs.len()) else {
         return false;
     };
-    for (a, b) in ours.chunks_exact(64).zip(theirs.chunks_exact(64)) {
-        if !same_record(a, b) {
-            return false;
-        }
-    }
-    lent::unmarked(behind)
+    let mut pairs = ours.chunks_exact(64).zip(theirs.chunks_exact(64));
+    pairs.all(|(a, b)| same_record(a, b)) && lent::unmarked(behind)
 }
 
 // ---- a model
@@ -76,67 +71,51 @@ fn two(low: u8, high: u8) -> usize
     u16::from_le_bytes([low, high]) as usize
 }
 
-// The first entry of a list, and what is behind it; none where it is cut short. An entry is the model file's length / 32 and the number
-// of records in two bytes each, the model file, the records.
-fn split_entry(s: &[u8]) -> Option<(Entry<'_>, &[u8])>
-    ensures { IfSome result (λ p. length p.1.now < length s.now) }
-{
-    let (head, rest) = s.split_first_chunk::<4>()?;
-    let (model, rest) = rest.split_at_checked(32 * two(head[0], head[1]))?;
-    let (records, rest) = rest.split_at_checked(64 * two(head[2], head[3]))?;
-    Some((Entry { model, records }, rest))
+// A recorded model is the model file's length / 32 and the number of records in two bytes each, the model file, the records.
+impl<'a> Entry<'a> for Recorded<'a> {
+    fn split_first(list: &'a [u8]) -> Option<(Recorded<'a>, &'a [u8])> {
+        let (head, rest) = list.split_first_chunk::<4>()?;
+        let (model, rest) = rest.split_at_checked(32 * two(head[0], head[1]))?;
+        let (records, rest) = rest.split_at_checked(64 * two(head[2], head[3]))?;
+        Some((Recorded { model, records }, rest))
+    }
 }
 
-// An entry's model, checked by either way; alike also means that the program on it agrees with its records.
-fn agrees(e: Entry) -> ways::Sought {
+// A recorded model, checked by either way: how many faces were sought each way; none where the ways differ, or the program's records are
+// not the recorded ones.
+fn agrees(recorded: Recorded) -> Option<u64> {
     let mut findings = [lent::MARK; 32768];
     let mut out = [0u8; 65600];
-    lent::run_model(e.model, &mut findings, &mut out);
-    let sought = ways::by_either(e.model);
-    let records = is_front(&findings, e.records);
-    ways::Sought {
-        alike: sought.alike & records,
-        faces: sought.faces,
-    }
+    lent::run_model(recorded.model, &mut findings, &mut out);
+    let faces = ways::by_either(recorded.model)?;
+    is_front(&findings, recorded.records).then_some(faces)
 }
 
 // ---- many models
 
 // Counts a model, with a line if it differs.
-fn counted(rt: &impl Print, t: Tally, s: ways::Sought) -> io::Result<Tally> {
-    if !s.alike {
+fn counted(rt: &impl Print, t: Tally, sought: Option<u64>) -> io::Result<Tally> {
+    if sought.is_none() {
         println!(rt; "model {} differs", t.models)?;
     }
     Ok(Tally {
         models: test_support::more(t.models, true),
-        agree: test_support::more(t.agree, s.alike),
-        faces: t.faces.wrapping_add(s.faces),
+        agree: test_support::more(t.agree, sought.is_some()),
+        faces: t.faces.wrapping_add(sought.unwrap_or(0)),
     })
 }
 
 // The models of a file, one after the other. What is cut short counts as one that differs.
 fn replay(rt: &impl Print, s: &[u8], before: Tally) -> io::Result<Tally> {
     let mut t = before;
-    let mut rest = s;
-    // no `for`: how long one is stands in it
-    while !rest.is_empty() {
-        let Some((e, behind)) = split_entry(rest) else {
-            return counted(rt, t, ways::Sought::unlike());
+    for entry in Entries::<Recorded>::new(s) {
+        let sought = match entry {
+            Ok(recorded) => agrees(recorded),
+            Err(_) => None,
         };
-        t = counted(rt, t, agrees(e))?;
-        rest = behind;
+        t = counted(rt, t, sought)?;
     }
     Ok(t)
-}
-
-// The file part-p, where data/ has it.
-fn replay_part<R: Files + Print>(rt: &R, p: u8, t: Tally) -> io::Result<Tally> {
-    let name = [b'p', b'a', b'r', b't', b'-', p];
-    let mut buf = [0u8; 65536];
-    match test_support::read_file(rt, &name, &mut buf) {
-        Some(s) => replay(rt, s, t),
-        None => Ok(t),
-    }
 }
 
 // The line with the counts.
@@ -145,44 +124,49 @@ fn count(rt: &impl Print, t: Tally) -> io::Result<()> {
     println!(rt; "by either way; {} faces sought each way", t.faces)
 }
 
-// The files part-0 to part-9.
+const PARTS: [&str; 10] = [
+    "part-0", "part-1", "part-2", "part-3", "part-4", "part-5", "part-6", "part-7", "part-8",
+    "part-9",
+];
+
+// The files part-0 to part-9, those that data/ has.
 fn replay_parts<R: Files + Print>(rt: &R) -> io::Result<()> {
     let mut t = Tally::default();
-    for p in b"0123456789" {
-        t = replay_part(rt, *p, t)?;
+    for name in PARTS {
+        let mut buf = [0u8; 65536];
+        if let Some(s) = test_support::read_file(rt, name, &mut buf) {
+            t = replay(rt, s, t)?;
+        }
     }
     count(rt, t)
 }
 
 // ---- pins
 
-// A pin: a name and an entry.
+// A pin: a name and a recorded model. The length of its name stands in a byte before it.
 #[derive(Clone, Copy)]
 struct Pin<'a> {
-    name: &'a [u8],
-    entry: Entry<'a>,
+    name: &'a str,
+    recorded: Recorded<'a>,
 }
 
-// The first pin of a list, and what is behind it; none where it is cut short. The length of a pin's name stands in a byte before it.
-fn split_pin(s: &[u8]) -> Option<(Pin<'_>, &[u8])>
-    ensures { IfSome result (λ p. length p.1.now < length s.now) }
-{
-    let (size, rest) = s.split_first()?;
-    let (name, rest) = rest.split_at_checked(*size as usize)?;
-    let (entry, rest) = split_entry(rest)?;
-    Some((Pin { name, entry }, rest))
+impl<'a> Entry<'a> for Pin<'a> {
+    fn split_first(list: &'a [u8]) -> Option<(Pin<'a>, &'a [u8])> {
+        let (size, rest) = list.split_first()?;
+        let (name, rest) = rest.split_at_checked(*size as usize)?;
+        let name = str::from_utf8(name).ok()?;
+        let (recorded, rest) = Recorded::split_first(rest)?;
+        Some((Pin { name, recorded }, rest))
+    }
 }
 
 // The pins of a list, one after the other.
 fn replay_pins(rt: &impl Print, s: &[u8]) -> io::Result<()> {
-    let mut rest = s;
-    // no `for`: how long one is stands in it
-    while !rest.is_empty() {
-        let Some((pin, behind)) = split_pin(rest) else {
-            return test_support::tell_agrees(rt, b"a pin cut short", false);
-        };
-        test_support::tell_agrees(rt, pin.name, agrees(pin.entry).alike)?;
-        rest = behind;
+    for entry in Entries::<Pin>::new(s) {
+        match entry {
+            Ok(pin) => test_support::tell_agrees(rt, pin.name, agrees(pin.recorded).is_some())?,
+            Err(_) => test_support::tell_agrees(rt, "a pin cut short", false)?,
+        }
     }
     Ok(())
 }
@@ -191,7 +175,7 @@ fn replay_pins(rt: &impl Print, s: &[u8]) -> io::Result<()> {
 pub fn replay_all<R: Files + Print>(rt: &R) -> io::Result<()> {
     replay_parts(rt)?;
     let mut buf = [0u8; 65536];
-    match test_support::read_file(rt, b"pins", &mut buf) {
+    match test_support::read_file(rt, "pins", &mut buf) {
         Some(s) => replay_pins(rt, s),
         None => Ok(()),
     }

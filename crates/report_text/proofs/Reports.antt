@@ -17,8 +17,9 @@ use Rattle.findings.proofs.Kept.{record_64}
 use Rattle.records.specs.Read.{fields_in}
 use Rattle.records.proofs.Back.{fields_back}
 use Rattle.report.specs.Text.{line_of, total_line, conform, report_text}
-use Rattle.report_text.specs.Stored.{Stored, fields_kept}
-use Rattle.report_text.proofs.Texts.{behind}
+use Rattle.report_text.specs.Stored.{Wrote, fields_kept}
+use Rattle.report_text.specs.declared.Text.{Text}
+use Rattle.report_text.proofs.Texts.{followed}
 
 -- the lines of i records and that of the next
 lines_next : (f : List ℕ) (i : ℕ) → each line_of (fields_kept f i) ++ line_of (fields_in f (64 * i)) ≡ each line_of (fields_kept f (i + 1))
@@ -30,22 +31,21 @@ lines_next f i =
     ∙ each_append line_of (fields_kept f i) (at i ∷ [])
     ∙ ap (λ (l : List ℕ). each line_of (fields_kept f i) ++ l) (append-nil (line_of (at i))))
 
--- stored one behind the other
-pub line_next : (f l l1 l2 : List ℕ) (i p q : ℕ) (x : Fields) → x ≡ fields_in f (64 * i) → Stored l 0 (each line_of (fields_kept f i)) l1 p → Stored l1 p (line_of x) l2 q
-    → Stored l 0 (each line_of (fields_kept f (i + 1))) l2 q
-line_next f l l1 l2 i p q x e s t =
-    rw (← lines_next f i, ← e) (behind l l1 l2 0 p q (each line_of (fields_kept f i)) (line_of x) s t)
+-- written one behind the other
+pub line_next : (f : List ℕ) (i : ℕ) (x : Fields) {t u v : Text} → x ≡ fields_in f (64 * i) → Wrote (128 * i) (each line_of (fields_kept f i)) t u → Wrote 128 (line_of x) u v
+    → Wrote (128 * (i + 1)) (each line_of (fields_kept f (i + 1))) t v
+line_next f i x e p q = rw (← lines_next f i, ← e) (followed p q (omega arith))
 
 -- the whole text where there are no findings
-pub text_none : (xs : List Fields) (total k : ℕ) (l l1 : List ℕ) (q : ℕ) → total ≡ 0 → Stored l 0 conform l1 q → Stored l 0 (report_text xs total k) l1 q
+pub text_none : (xs : List Fields) (total k most : ℕ) {t u : Text} → total ≡ 0 → Wrote 8 conform t u → Wrote (most + 64) (report_text xs total k) t u
 unfolding report_text
-text_none xs total k l l1 q e s = rw (eq-eqb total 0 e) s
+text_none xs total k most e p =
+    rw (eq-eqb total 0 e) (record { same_reference = p.same_reference; stored = p.stored; few = omega (arith, p.few); room = p.room })
 
 -- and where there are some: the lines, and the totals behind them
-pub text_some : (xs : List Fields) (total k : ℕ) (l l1 l2 : List ℕ) (p q : ℕ) → (total ≡ 0 → ⊥) → Stored l 0 (each line_of xs) l1 p → Stored l1 p (total_line total k) l2 q
-    → Stored l 0 (report_text xs total k) l2 q
+pub text_some : (xs : List Fields) (total k most : ℕ) {t u v : Text} → (total ≡ 0 → ⊥) → Wrote most (each line_of xs) t u → Wrote 64 (total_line total k) u v → Wrote (most + 64) (report_text xs total k) t v
 unfolding report_text
-text_some xs total k l l1 l2 p q h s t = rw (ne_eqb total 0 h) (behind l l1 l2 0 p q (each line_of xs) (total_line total k) s t)
+text_some xs total k most h p q = rw (ne_eqb total 0 h) (followed p q (omega arith))
 
 module _ (R : Rules) (f rest : List ℕ) where
   -- records from number j on

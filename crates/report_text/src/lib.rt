@@ -1,119 +1,151 @@
-// The lines of a report, written into bytes. Each function answers the place behind what it wrote.
+// The lines of a report, written into lent bytes.
 #![tactic(auto)]
 
-ghost use Rattle.std.specs.Prelude.{◌≡◌, [], ◌∷◌, ◌++◌, ◌+◌, ◌*◌, ◌≤◌, ◌<◌, length};
+ghost use Rattle.std.specs.Prelude.{◌≡◌, [], ◌∷◌, ◌++◌, ◌+◌, ◌*◌, ◌≤◌, length};
 ghost use Rattle.laws.specs.Lists.{each};
+ghost use Rattle.refusals.specs.Told.{number};
 ghost use Rattle.records.specs.Keeping.{told};
-ghost use Rattle.report.specs.Text.{digits_to, decimal, spaced, line_of, total_line, refused_line, conform, report_text};
-ghost use Rattle.report_text.specs.Stored.{Stored, fields_kept};
+ghost use Rattle.report.specs.Text.{decimal, spaced, line_of, total_line, refused_line, conform, report_text};
+ghost use Rattle.report_text.specs.Stored.{Stored, Wrote, fields_kept};
 
-// A number in base ten.
-pub fn put_decimal(out: &mut [u8], at: usize, n: u64) -> usize
-    requires { at + 20 ≤ length out.old }
-    ensures { Stored out.old at (decimal n) out.new result × (result ≤ at + 20) }
-{
-    let mut digits = itoa::Buffer::new();
-    put_text(out, at, digits.format(n).as_bytes())
+use records::Record;
+use refusals::Refusal;
+
+// Where text goes: lent bytes, and the place behind what is written.
+#[derive(Drop)]
+pub struct Text<'a> {
+    out: &'a mut [u8],
+    pub at: usize,
 }
 
-// A text that is at hand.
-fn put_text(out: &mut [u8], at: usize, text: &[u8]) -> usize
-    requires { at + length text.now ≤ length out.old }
-    ensures { Stored out.old at text.now out.new result }
-{
-    let end = at + text.len();
-    out[at..end].copy_from_slice(text);
-    end
-}
-
-// A space and a number.
-fn put_spaced(out: &mut [u8], at: usize, n: u64) -> usize
-    requires { at + 21 ≤ length out.old }
-    ensures { Stored out.old at (spaced n) out.new result × (result ≤ at + 21) }
-{
-    let p = put_text(out, at, b" ");
-    put_decimal(out, p, n)
-}
-
-// A space, a number and the end of the line.
-fn put_last(out: &mut [u8], at: usize, n: u64) -> usize
-    requires { at + 22 ≤ length out.old }
-    ensures { Stored out.old at (spaced n ++ (10 ∷ [])) out.new result × (result ≤ at + 22) }
-{
-    let p = put_spaced(out, at, n);
-    put_text(out, p, b"\n")
-}
-
-// The end of a finding's line: items a and b, and the count.
-fn put_items(out: &mut [u8], at: usize, a: u32, b: u32, count: u32) -> usize
-    requires { at + 64 ≤ length out.old }
-    ensures { Stored out.old at (spaced a ++ (spaced b ++ (spaced count ++ (10 ∷ [])))) out.new result × (result ≤ at + 64) }
-{
-    let p = put_spaced(out, at, a as u64);
-    let q = put_spaced(out, p, b as u64);
-    put_last(out, q, count as u64)
-}
-
-// The line of a finding.
-pub fn put_line(out: &mut [u8], at: usize, f: records::Record) -> usize
-    requires { at + 128 ≤ length out.old }
-    ensures { Stored out.old at (line_of (told f)) out.new result × (result ≤ at + 128) }
-{
-    let p = put_decimal(out, at, f.kind as u64);
-    let q = put_spaced(out, p, f.first as u64);
-    let s = put_spaced(out, q, f.second as u64);
-    put_items(out, s, f.a, f.b, f.count)
-}
-
-// The line of the totals.
-pub fn put_total(out: &mut [u8], at: usize, total: u64, kept: u64) -> usize
-    requires { at + 64 ≤ length out.old }
-    ensures { Stored out.old at (total_line total kept) out.new result × (result ≤ at + 64) }
-{
-    let p = put_text(out, at, b"total");
-    let q = put_spaced(out, p, total);
-    let s = put_text(out, q, b" kept");
-    put_last(out, s, kept)
-}
-
-// The line of a refusal.
-pub fn put_refused(out: &mut [u8], at: usize, n: u64) -> usize
-    requires { at + 32 ≤ length out.old }
-    ensures { Stored out.old at (refused_line n) out.new result × (result ≤ at + 32) }
-{
-    let p = put_text(out, at, b"refused");
-    put_last(out, p, n)
-}
-
-// The text of a report without findings.
-pub fn put_conform(out: &mut [u8], at: usize) -> usize
-    requires { at + 8 ≤ length out.old }
-    ensures { Stored out.old at conform out.new result }
-{
-    put_text(out, at, b"CONFORM\n")
-}
-
-// The lines of the first `kept` records, from the start on.
-fn put_lines(out: &mut [u8], findings: &[u8], kept: usize) -> usize
-    requires { (64 * kept ≤ length findings.now) × (128 * kept ≤ length out.old) }
-    ensures { Stored out.old 0 (each line_of (fields_kept findings.now kept)) out.new result × (result ≤ 128 * kept) }
-{
-    let (records, _) = findings.as_chunks::<64>();
-    let mut p = 0;
-    for bytes in &records[..kept] {
-        p = put_line(out, p, records::fields_of(bytes));
+impl<'a> Text<'a> {
+    // Text that begins at a place.
+    pub fn new(out: &'a mut [u8], at: usize) -> Text<'a>
+        ensures same_reference { result.out.ghost_name ≡ out.entry.ghost_name }
+        ensures empty { (result.out.now ≡ out.old) × (result.at ≡ at) }
+    {
+        Text { out, at }
     }
-    p
+
+    // A text that is at hand.
+    fn put(&mut self, text: &[u8])
+        requires { self.old.at + length text.now ≤ length self.old.out.now }
+        ensures { Wrote (length text.now) text.now self.old self.new }
+    {
+        let end = self.at + text.len();
+        self.out[self.at..end].copy_from_slice(text);
+        self.at = end;
+    }
+
+    // A number in base ten.
+    pub fn put_decimal(&mut self, n: u64)
+        requires { self.old.at + 20 ≤ length self.old.out.now }
+        ensures { Wrote 20 (decimal n) self.old self.new }
+    {
+        let mut digits = itoa::Buffer::new();
+        self.put(digits.format(n).as_bytes());
+    }
+
+    // A space and a number.
+    fn put_spaced(&mut self, n: u64)
+        requires { self.old.at + 21 ≤ length self.old.out.now }
+        ensures { Wrote 21 (spaced n) self.old self.new }
+    {
+        self.put(b" ");
+        self.put_decimal(n);
+    }
+
+    // A space, a number and the end of the line.
+    fn put_last(&mut self, n: u64)
+        requires { self.old.at + 22 ≤ length self.old.out.now }
+        ensures { Wrote 22 (spaced n ++ (10 ∷ [])) self.old self.new }
+    {
+        self.put_spaced(n);
+        self.put(b"\n");
+    }
+
+    // The line of a finding.
+    pub fn put_line(&mut self, f: Record)
+        requires { self.old.at + 128 ≤ length self.old.out.now }
+        ensures { Wrote 128 (line_of (told f)) self.old self.new }
+    {
+        self.put_decimal(f.kind as u64);
+        self.put_spaced(f.first as u64);
+        self.put_spaced(f.second as u64);
+        self.put_spaced(f.a as u64);
+        self.put_spaced(f.b as u64);
+        self.put_last(f.count as u64);
+    }
+
+    // The line of the totals.
+    pub fn put_total(&mut self, total: u64, kept: u64)
+        requires { self.old.at + 64 ≤ length self.old.out.now }
+        ensures { Wrote 64 (total_line total kept) self.old self.new }
+    {
+        self.put(b"total");
+        self.put_spaced(total);
+        self.put(b" kept");
+        self.put_last(kept);
+    }
+
+    // The line of a refusal, which `Display` gives without its end: that writes to what may fail, and its promise is no equation.
+    pub fn put_refused(&mut self, refusal: Refusal)
+        requires { self.old.at + 32 ≤ length self.old.out.now }
+        ensures { Wrote 32 (refused_line (number refusal)) self.old self.new }
+    {
+        self.put(b"refused");
+        self.put_last(refusal.number() as u64);
+    }
+
+    // The text of a report without findings.
+    pub fn put_conform(&mut self)
+        requires { self.old.at + 8 ≤ length self.old.out.now }
+        ensures { Wrote 8 conform self.old self.new }
+    {
+        self.put(b"CONFORM\n");
+    }
+
+    // The lines of the first `kept` records.
+    fn put_lines(&mut self, findings: &[u8], kept: usize)
+        requires { (64 * kept ≤ length findings.now) × (self.old.at + 128 * kept ≤ length self.old.out.now) }
+        ensures { Wrote (128 * kept) (each line_of (fields_kept findings.now kept)) self.old self.new }
+    {
+        let (lent, _) = findings.as_chunks::<64>();
+        for bytes in &lent[..kept] {
+            self.put_line(records::fields_of(bytes));
+        }
+    }
+
+    // The text of a report: the lines of the records kept and the totals, or that there are no findings.
+    pub fn put_report(&mut self, findings: &[u8], total: u64, kept: usize)
+        requires { (64 * kept ≤ length findings.now) × (self.old.at + (128 * kept + 64) ≤ length self.old.out.now) }
+        ensures { Wrote (128 * kept + 64) (report_text (fields_kept findings.now kept) total kept) self.old self.new }
+    {
+        if total == 0 {
+            self.put_conform();
+            return;
+        }
+        self.put_lines(findings, kept);
+        self.put_total(total, kept as u64);
+    }
 }
 
-// The text of a report: the lines of the records kept and the totals, or that there are no findings.
+// The line of a refusal, in lent bytes from a place on; the place behind it.
+pub fn put_refused(out: &mut [u8], at: usize, refusal: Refusal) -> usize
+    requires { at + 32 ≤ length out.old }
+    ensures { Stored out.old at (refused_line (number refusal)) out.new result × (result ≤ at + 32) }
+{
+    let mut text = Text::new(out, at);
+    text.put_refused(refusal);
+    text.at
+}
+
+// The text of a report in front of lent bytes; the place behind it.
 pub fn put_report(out: &mut [u8], findings: &[u8], total: u64, kept: usize) -> usize
     requires { (64 * kept ≤ length findings.now) × (128 * kept + 64 ≤ length out.old) }
     ensures { Stored out.old 0 (report_text (fields_kept findings.now kept) total kept) out.new result × (result ≤ length out.old) }
 {
-    if total == 0 {
-        return put_conform(out, 0);
-    }
-    let p = put_lines(out, findings, kept);
-    put_total(out, p, total, kept as u64)
+    let mut text = Text::new(out, 0);
+    text.put_report(findings, total, kept);
+    text.at
 }

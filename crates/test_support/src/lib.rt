@@ -1,49 +1,87 @@
-// For the programs of the gate: files, what stands in their bytes, and what is printed.
+// For the programs of the gate: files, the entries of lists, numbers in bytes, and what is printed.
 #![tactic(auto)]
 
-ghost use Rattle.std.specs.Prelude.{◌+◌, ◌^◌, ◌<◌, ◌≤◌, length};
+ghost use Rattle.std.specs.Prelude.{◌+◌, ◌^◌, ◌<◌, ◌≤◌, length, IfSome};
+ghost use Rattle.std.specs.Iterator.{at_most};
 
+use arrayvec::ArrayString;
 use floats::Stored;
 use refusals::Refusal;
-use std::io::Read;
+use std::fmt::Write;
+use std::marker::PhantomData;
 use std::rt::Files;
-use std::{fs, io, str};
+use std::{fs, io};
 
 // ---- files
 
-// The name of a file of case n, with an ending of three bytes.
-pub fn case_name(n: usize, ending: &[u8; 3]) -> [u8; 13] {
-    let mut name = *b"case-0000.in ";
-    name[5] += (n / 1000 % 10) as u8;
-    name[6] += (n / 100 % 10) as u8;
-    name[7] += (n / 10 % 10) as u8;
-    name[8] += (n % 10) as u8;
-    name[10..].copy_from_slice(ending);
-    name
-}
-
-// Reads to the front of buf until it is full, the input ends or a read fails.
-fn read_full<R: Read>(input: &mut R, buf: &mut [u8]) -> usize
-    ensures { result ≤ length buf.new }
-{
-    let mut done = 0;
-    // no `for`: a read gives as many bytes as there are at hand
-    while done < buf.len() {
-        let n = input.read(&mut buf[done..]).unwrap_or(0);
-        if n == 0 {
-            break;
-        }
-        done += n;
-    }
-    done
-}
-
-// Reads the file of that name to the front of buf, and answers that part; none where there is no such file.
-pub fn read_file<'a, R: Files>(rt: &R, name: &[u8], buf: &'a mut [u8]) -> Option<&'a mut [u8]> {
-    let path = str::from_utf8(name).ok()?;
-    let mut file = fs::open(rt, path).ok()?;
-    let n = read_full(&mut file, buf);
+// Reads the file of that name to the front of buf, and answers that part; none where there is no such file or it is not read.
+pub fn read_file<'a, R: Files>(rt: &R, name: &str, buf: &'a mut [u8]) -> Option<&'a mut [u8]> {
+    let mut file = fs::open(rt, name).ok()?;
+    let n = full_reads::read_full(&mut file, buf).ok()?;
     Some(&mut buf[..n])
+}
+
+// The same of the file of case n with that ending.
+pub fn read_case<'a, R: Files>(
+    rt: &R,
+    n: usize,
+    ending: &str,
+    buf: &'a mut [u8],
+) -> Option<&'a mut [u8]> {
+    let mut name = ArrayString::<32>::new();
+    write!(name, "case-{n:04}.{ending}").ok()?;
+    read_file(rt, &name, buf)
+}
+
+// ---- lists
+
+// What a list in bytes holds; how long one is stands in it.
+pub trait Entry<'a>: Copy {
+    // The first entry, and what is behind it; none where it is cut short.
+    fn split_first(list: &'a [u8]) -> Option<(Self, &'a [u8])>
+        ensures { IfSome result (λ p. length p.1.now < length list.now) };
+}
+
+// An entry that is cut short.
+#[derive(Clone, Copy, Debug)]
+pub struct CutShort;
+
+// The entries of a list, one after the other; one that is cut short is the last.
+#[derive(Clone, Copy)]
+pub struct Entries<'a, T> {
+    list: &'a [u8],
+    entry: PhantomData<T>,
+}
+
+impl<'a, T: Entry<'a>> Entries<'a, T> {
+    pub fn new(list: &'a [u8]) -> Self {
+        Entries {
+            list,
+            entry: PhantomData,
+        }
+    }
+}
+
+impl<'a, T: Entry<'a>> Iterator for Entries<'a, T> {
+    type Item = Result<T, CutShort>;
+
+    ghost remaining = { λ s. at_most (length s.list.now) };
+
+    fn next(&mut self) -> Option<Result<T, CutShort>> {
+        if self.list.is_empty() {
+            return None;
+        }
+        match T::split_first(self.list) {
+            Some((entry, behind)) => {
+                self.list = behind;
+                Some(Ok(entry))
+            }
+            None => {
+                self.list = &[];
+                Some(Err(CutShort))
+            }
+        }
+    }
 }
 
 // ---- numbers in bytes, the lowest first
@@ -83,29 +121,12 @@ pub fn refused<T: Copy>(answer: Result<T, Refusal>) -> u64 {
 
 // ---- lines
 
-pub fn say(rt: &impl Print, text: &[u8]) -> io::Result<()> {
-    rt.write_all(text)
-}
-
-pub fn say_number(rt: &impl Print, text: &[u8], n: u64) -> io::Result<()> {
-    rt.write_all(text)?;
-    print!(rt; "{n}")
-}
-
-// A line: a name and a number.
-pub fn tell(rt: &impl Print, name: &[u8], n: u64) -> io::Result<()> {
-    say(rt, name)?;
-    say_number(rt, b" ", n)?;
-    say(rt, b"\n")
-}
-
 // A line: a name, and whether what it stands for agrees.
-pub fn tell_agrees(rt: &impl Print, name: &[u8], agrees: bool) -> io::Result<()> {
-    say(rt, name)?;
+pub fn tell_agrees(rt: &impl Print, name: &str, agrees: bool) -> io::Result<()> {
     if agrees {
-        say(rt, b" agrees\n")
+        println!(rt; "{name} agrees")
     } else {
-        say(rt, b" differs\n")
+        println!(rt; "{name} differs")
     }
 }
 

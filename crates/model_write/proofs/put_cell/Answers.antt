@@ -33,6 +33,6 @@ returns-clause-put c =
     let put = c.put.new.out in
     let all = ap chunks_rest c.into_iter-part-iterator.ensures.into_iter_gives ∙ c.chunks-part-items.ensures.rest in
     let few : length first ≡ min 14 (length a.cell.now.words.now) = omega (arith, s.front_len, c.min.ensures) in
-    let one = c.put.ensures ∙ ap (sets a.out.now a.at) (c.word_record.ensures ∙ ap (λ (k : ℕ). word_record 67 k first) c.number_of.ensures) in
+    let one = c.put.ensures ∙ ap (sets a.out.now a.at) (c.word_record.ensures ∙ ap (λ (k : ℕ). word_record 67 k first) c.from.ensures) in
     let rest = sym (mores_none o.out o.p (chunks_rest o.part-iterator) c.in-None.ensures.steps.1.0) ∙ o.invariant.1.left ∙ ap (λ (x : List ℕ). sets put (a.at + 32) (join (mores x))) all in
     cell_put a.out.now put o.out a.at kind a.cell.now.words.now first _ s.by_index.0 few one rest

@@ -1,14 +1,12 @@
 -- `program::report_on` meets its contract: what the check leaves in the lent memory, and the text of its answer.
 use mathlib.Core.Path.{subst}
 use native.Mathlib.Omega.{arith}
-use Rattle.std.specs.Prelude.{ℕ, Result}
+use Rattle.std.specs.Prelude.{Result}
 use Rattle.laws.specs.Refusals.{refused, done}
 use Rattle.refusals.specs.declared.Refusal.{Refusal}
 use Rattle.refusals.specs.Told.{number, told_by}
 use Rattle.mesh.specs.Lent.{lent}
 use Rattle.findings.specs.Check.{Checking}
-use Rattle.report.specs.Text.{refused_line}
-use Rattle.report_text.specs.Stored.{Stored}
 use Rattle.conformance.specs.declared.Checked.{Checked}
 use Rattle.program.proofs.Answers.{keeps_of, reporting}
 use Rattle.program.proofs.report_on.Goals as goal
@@ -33,8 +31,7 @@ returns-in-Err c =
     let e = c.in-Err.e in
     let checked : Checking m a.findings.now h.new.findings a.work.now h.new.work (refused (number e)) =
     subst (λ (r : Result Checked Refusal). Checking m a.findings.now h.new.findings a.work.now h.new.work (told_by (λ x. x.totals) r)) c.in-Err.is h.ensures.checking in
-    let line : Stored a.out.now 0 (refused_line (number e)) p.new.out p.result = subst (λ (n : ℕ). Stored a.out.now 0 (refused_line n) p.new.out p.result) c.number.ensures.value p.ensures.0 in
-    reporting m a.findings.now h.new.findings a.work.now h.new.work q.finding_bytes q.work_words (refused (number e)) a.out.now p.new.out p.result checked line (omega (arith, p.ensures.1, q.out_bytes))
+    reporting m a.findings.now h.new.findings a.work.now h.new.work q.finding_bytes q.work_words (refused (number e)) a.out.now p.new.out p.result checked p.ensures.0 (omega (arith, p.ensures.1, q.out_bytes))
 
 pub returns-in-Ok : goal.returns-in-Ok
 returns-in-Ok c =

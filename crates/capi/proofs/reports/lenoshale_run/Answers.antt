@@ -6,7 +6,7 @@ use Rattle.capi.proofs.reports.lenoshale_run.Goals as goal
 pub returns-then-out-lt65600 : goal.returns-then-out-lt65600
 returns-then-out-lt65600 c =
     let a = c.args in
-    run_short a.input.now a.out.now a.size.now _ c.number.ensures.value (omega (arith, c.if-out-lt65600.true))
+    run_short a.input.now a.out.now a.size.now _ c.refused.ensures (omega (arith, c.if-out-lt65600.true))
 
 pub returns : goal.returns
 returns c =

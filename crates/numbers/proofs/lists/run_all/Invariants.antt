@@ -1,9 +1,0 @@
--- `run_all` ends: each entry ends farther on, within the list.
-use Rattle.std.proofs.Common.{◌-◌, ◌≤◌, length}
-use Rattle.numbers.proofs.lists.run_all.Given as goal
-
-abbrev pub invariant-loop-at : goal.invariant-loop-at
-invariant-loop-at g l = l.at ≤ length l.s
-
-abbrev pub decreases-loop-at : goal.decreases-loop-at
-decreases-loop-at g l = length l.s - l.at
