@@ -1,10 +1,9 @@
 -- `conformance::check_by` meets its contract.
-use Prim.Native.Nat.{ℕ, ◌*◌, ◌≤◌, ◌/◌, min}
+use Prim.Native.Nat.{◌*◌, ◌≤◌, ◌/◌, min}
 use mathlib.Core.Path.{◌≡◌, sym, ap, ◌∙◌, subst}
-use mathlib.Core.List.{List, ◌++◌}
+use mathlib.Core.List.{◌++◌}
 use native.Mathlib.Omega.{arith}
-use lib.ListN.{length, drop, replicate, length-append, length-drop, length-replicate}
-use lib.Seq.{sets, length-take-le}
+use lib.ListN.{length, drop}
 use Rattle.std.specs.Prelude.{Ok, Err}
 use Rattle.std.proofs.lemmas.Result.{err_from_is_err_and}
 use Rattle.laws.proofs.Lent.{cleared_front}
