@@ -13,7 +13,7 @@ use mesh::{Accepted, Model};
 use refusals::Refusal;
 use seek::{Searched, Tally, Way};
 
-// How many candidates a face has, and by which way they were sought.
+// How many candidates a face has, and by which way they were sought. (No generic pair with a tally: as at `full_list::Counts`.)
 #[derive(Clone, Copy)]
 pub struct SoughtFace {
     pub count: u32,

@@ -10,7 +10,7 @@ use full_list::Choice;
 use mesh::Model;
 use refusals::Refusal;
 
-// What the check answers, and how many faces were sought each way.
+// What the check answers, and how many faces were sought each way. (No generic pair with a tally: as at `full_list::Counts`.)
 #[derive(Clone, Copy)]
 pub struct Checked {
     pub totals: Totals,

@@ -9,3 +9,4 @@ pub mod Tables
 pub mod Bounds
 pub mod ByteLaws
 pub mod Members
+pub mod Lent

@@ -37,7 +37,7 @@ slice_bounds-copy_from_slice-end-3 c =
     let q = s.ensures.standing.0.spaced in
     let n = number_low m l s.new.work c.candidates_of-c.new.work c.args.face (found_in c.candidates_of-c.result) s.ensures.standing.0 shows low c.candidates_of-c.ensures.sought_by.sought in
     let room : l.at.found + c.min-k.result ≤ length c.candidates_of-c.new.work =
-    omega (arith, n, c.count.ensures, c.min-k.ensures, c.candidates_of-c.auto.work, q.marks_at, q.others_at, q.last_at, q.pairs_at, q.spare_at, q.ends) in
+    omega (arith, n, c.min-k.ensures, c.candidates_of-c.auto.work, q.marks_at, q.others_at, q.last_at, q.pairs_at, q.spare_at, q.ends) in
     omega (arith, room)
 
 pub returns : goal.returns
@@ -50,18 +50,17 @@ returns c =
     let v = c.candidates_of-c.new.work in
     let st = s.ensures.standing.0 in
     let q = c.candidates_of-c.ensures.sought_by.sought in
-    let e = c.count.ensures in
     let f = c.args.face in
     let old = c.args.found.now in
     let n = found_in c.candidates_of-c.result in
     let k = c.min-k.result in
     let low_n = number_low m l s.new.work v f n st shows low q in
-    let few : c.count.result < 4294967296 = omega (arith, low_n, e, st.spaced.few_faces) in
-    let first = first_are m l s.new.work v f n st shows low q k (length old) (omega (arith, e, c.min-k.ensures)) in
-    let many : length (take (length old) (candidates_of m f)) ≡ k = omega (arith, length-take (length old) (candidates_of m f), number_is m l s.new.work v f n st shows low q, e, c.min-k.ensures) in
+    let few : n < 4294967296 = omega (arith, low_n, st.spaced.few_faces) in
+    let first = first_are m l s.new.work v f n st shows low q k (length old) (omega (arith, c.min-k.ensures)) in
+    let many : length (take (length old) (candidates_of m f)) ≡ k = omega (arith, length-take (length old) (candidates_of m f), number_is m l s.new.work v f n st shows low q, c.min-k.ensures) in
     let same : l.at.found + k - l.at.found ≡ k = omega arith in
     record {
-      result_value = (number_is m l s.new.work v f n st shows low q, omega (arith, e, few), c.candidates_of-c.ensures.sought_by.way);
+      result_value = (number_is m l s.new.work v f n st shows low q, few, c.candidates_of-c.ensures.sought_by.way);
       found_after = ap (λ (x : List ℕ). x ++ drop k old) (c.copy_from_slice.ensures.after ∙ ap (λ i. take i (drop l.at.found v)) same ∙ first)
           ∙ ap (λ (j : ℕ). take (length old) (candidates_of m f) ++ drop j old) (sym many)
           ∙ sym (sets_front old (take (length old) (candidates_of m f)) (omega (arith, many, c.min-k.ensures)));

@@ -1,13 +1,12 @@
 -- `conformance::check_by` meets its contract.
-use Prim.Native.Nat.{ℕ, ◌*◌, ◌≤◌, ◌/◌, min}
+use Prim.Native.Nat.{◌*◌, ◌≤◌, ◌/◌, min}
 use mathlib.Core.Path.{◌≡◌, sym, ap, ◌∙◌, subst}
-use mathlib.Core.List.{List, ◌++◌}
+use mathlib.Core.List.{◌++◌}
 use native.Mathlib.Omega.{arith}
-use lib.ListN.{length, drop, replicate, length-append, length-drop, length-replicate}
-use lib.Seq.{sets, length-take-le}
+use lib.ListN.{length, drop}
 use Rattle.std.specs.Prelude.{Ok, Err}
 use Rattle.std.proofs.lemmas.Result.{err_from_is_err_and}
-use Rattle.laws.proofs.Stores.{sets_front, zero_front}
+use Rattle.laws.proofs.Lent.{cleared_front}
 use Rattle.refusals.specs.declared.Refusal.TheVariants.{Work}
 use Rattle.refusals.proofs.Told.{number-positive, told_ok, told_err}
 use Rattle.mesh.specs.Model.{Model}
@@ -47,21 +46,13 @@ returns c =
     let need : n ≡ work_needed m = c.work_needed-need.ensures in
     let enough : n ≤ length w = omega (arith, c.if-work-need.false) in
     let y = c.find-found in
-    let part = y.new.work in
-    let long : length part ≡ n = y.auto.work ∙ length-take-le n w enough in
-    let back = part ++ drop n w in
-    let whole : length back ≡ length w = omega (arith, length-append part (drop n w), length-drop n w, long, enough) in
-    let zeros = length-replicate {A = ℕ} n 0 in
-    let zero : c.fill.new.self ≡ replicate n 0 = c.fill.ensures.after (λ y e. e) ∙ ap (λ (k : ℕ). replicate k 0) (length-take-le n back (omega (arith, whole, enough))) in
-    let cleared : c.fill.new.self ++ drop n back ≡ sets back 0 (replicate n 0) =
-    ap (λ (x : List ℕ). x ++ drop n back) zero ∙ ap (λ (k : ℕ). replicate n 0 ++ drop k back) (sym zeros) ∙ sym (sets_front back (replicate n 0) (omega (arith, zeros, whole, enough))) in
-    let left = zero_front w part (c.fill.new.self ++ drop n back) n enough long cleared in
+    let left = cleared_front w y.new.work c.fill.new.self n (work_needed m) need enough y.auto.work (c.fill.ensures.after (λ y e. e)) in
     let none = row_none m w s.accepted (omega (arith, need, enough)) in
     let room = c.min-room in
     let cap : room.result ≡ min m.cap (length a.findings.now / 64) = c.min-room.ensures ∙ ap (λ (x : Model). min x.cap (length a.findings.now / 64)) (sym is) in
     let found = y.new.findings in
-    subst (λ (x : Model). CheckingBy a.choice x a.findings.now (found ++ drop (64 * room.result) a.findings.now) w (c.fill.new.self ++ drop n back) (Ok (record { totals = record { total = y.result.findings; kept = c.min.result }; tally = y.result.tally }))) is
-    (checked_by a.choice m a.findings.now (found ++ drop (64 * room.result) a.findings.now) w (c.fill.new.self ++ drop n back) _ none
+    subst (λ (x : Model). CheckingBy a.choice x a.findings.now (found ++ drop (64 * room.result) a.findings.now) w (c.fill.new.self ++ drop n (y.new.work ++ drop n w)) (Ok (record { totals = record { total = y.result.findings; kept = c.min.result }; tally = y.result.tally }))) is
+    (checked_by a.choice m a.findings.now (found ++ drop (64 * room.result) a.findings.now) w (c.fill.new.self ++ drop n (y.new.work ++ drop n w)) _ none
     (checked_so m a.findings.now found w room.result y.result.findings c.min.result none cap y.ensures.found c.min.ensures
-    (c.fill.new.self ++ drop n back) (subst (λ (k : ℕ). c.fill.new.self ++ drop n back ≡ replicate k 0 ++ drop (length (replicate k 0)) w) need left))
+    (c.fill.new.self ++ drop n (y.new.work ++ drop n w)) left)
     y.ensures.tallied)
