@@ -31,7 +31,7 @@ get_or_in (x ∷ l) (suc j) h = go (eqb (get_or l j 0) x) (get_or_in l j (omega 
     go false e = e
 
 -- an ascending list is in the library's order
-rises : (l : List ℕ) (i : ℕ) → Asc l → suc i < length l → get_or l i 0 < get_or l (suc i) 0
+pub rises : (l : List ℕ) (i : ℕ) → Asc l → suc i < length l → get_or l i 0 < get_or l (suc i) 0
 rises [] i a h = absurd (omega arith)
 rises (x ∷ l) zero a h = a.0 (get_or l 0 0) (get_or_in l 0 (omega arith))
 rises (x ∷ l) (suc i) a h = rises l i a.1 (omega arith)

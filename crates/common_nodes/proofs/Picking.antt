@@ -1,6 +1,6 @@
 -- Common nodes, one by one, and that they are nodes.
 use Prim.Native.Nat.{ℕ, suc, ◌+◌, ◌≤◌, ◌<◌}
-use mathlib.Core.Path.{◌≡◌, refl, sym, ap, ap₂, ◌∙◌, subst}
+use mathlib.Core.Path.{◌≡◌, refl, sym, ap, ap₂, ◌∙◌}
 use mathlib.Core.Bool.{Bool, true, false, ◌||◌}
 use mathlib.Core.List.{List, [], ◌∷◌, ◌++◌, append-nil}
 use native.Mathlib.Omega.{arith}
@@ -14,6 +14,9 @@ use Rattle.laws.specs.Lists.{only_if, keep, elem}
 use Rattle.laws.proofs.Bounds.{below_at, below_each, below-keep}
 use Rattle.laws.proofs.ListLaws.{keep_append, keep-length}
 use Rattle.laws.proofs.Stores.{sets_snoc, sets_front}
+use Rattle.index.specs.declared.by_node.Index.{Index}
+use Rattle.index.specs.Read.{set_of}
+use Rattle.index.proofs.Read.{node_low}
 use Rattle.geometry.specs.Steps.{InNodes}
 use Rattle.geometry.specs.Coordinates.{node_count}
 use Rattle.seek.specs.Candidates.{common}
@@ -80,20 +83,21 @@ picked_all A B own₀ own n i p h =
     let e : take i A ≡ A = take_all i A h in
     (p.count ∙ ap (λ (l : List ℕ). length (common l B)) e, p.put ∙ ap (λ (l : List ℕ). sets own₀ 0 (common l B)) e)
 
--- common nodes are nodes, and no more than there were
-pub common_in : (c : List Float) (n : ℕ) (A B : List ℕ) → n ≡ node_count c → ((i : ℕ) → i < length A → get_or A i 0 < n) → InNodes c (common A B)
+-- the common nodes of two faces are nodes
+pub common_in : (c : List Float) (i : Index) (f g : ℕ) → f < i.at.faces → i.at.nodes ≡ node_count c → InNodes c (common (set_of i f) (set_of i g))
 unfolding common
-common_in c n A B e h i l = omega (arith, e, below_at n (common A B) i (below-keep n (λ k. elem k B) A (below_each n A h)) l)
+common_in c i f g h e k l =
+    let A = set_of i f in
+    let B = set_of i g in
+    let low : (j : ℕ) → j < length A → get_or A j 0 < i.at.nodes = λ j m. node_low i.at i.base.now i.indexed f j h m in
+    omega (arith, e, below_at i.at.nodes (common A B) k (below-keep i.at.nodes (λ n. elem n B) A (below_each i.at.nodes A low)) l)
 
-pub common_few : (A B : List ℕ) → length (common A B) ≤ length A
+-- and at most 64
+pub common_few : (i : Index) (f g : ℕ) → f < i.at.faces → length (common (set_of i f) (set_of i g)) ≤ 64
 unfolding common
-common_few A B = keep-length (λ k. elem k B) A
+common_few i f g h = omega (arith, keep-length (λ k. elem k (set_of i g)) (set_of i f), i.indexed.laid.few f h)
 
 -- the part of a local list that was filled
 pub front : (own own₀ X : List ℕ) (n : ℕ) → own ≡ sets own₀ 0 X → n ≡ length X → length own₀ ≡ 64 → length X ≤ 64 → take n own ≡ X
 front own own₀ X n e k l h =
     ap₂ (λ (i : ℕ) (w : List ℕ). take i w) k (e ∙ sets_front own₀ X (omega (arith, l, h))) ∙ take-append_seam X (drop (length X) own₀)
-
--- its nodes are nodes
-pub front_in : (c : List Float) (own own₀ X : List ℕ) (n : ℕ) → own ≡ sets own₀ 0 X → n ≡ length X → length own₀ ≡ 64 → length X ≤ 64 → InNodes c X → InNodes c (take n own)
-front_in c own own₀ X n e k l h p = subst (InNodes c) (sym (front own own₀ X n e k l h)) p

@@ -9,6 +9,8 @@ ghost use Rattle.area.specs.AreaTest.{area_of, is_spans};
 ghost use Rattle.index.specs.Read.{set_of};
 ghost use Rattle.seek.specs.Candidates.{common};
 
+use index::Index;
+
 // How many nodes are common, and their centre.
 #[derive(Clone, Copy)]
 pub struct Shared {
@@ -21,6 +23,7 @@ fn pick(words: &[u32], others: &[u32], own: &mut [u32]) -> usize
     requires { length words.now ≤ length own.old }
     ensures { (result ≡ length (common words.now others.now)) × (own.new ≡ sets own.old 0 (common words.now others.now)) }
 {
+    // a counter beside the loop: a list of fixed memory has no `push`
     let mut n = 0;
     for &v in words {
         if others.contains(&v) {
@@ -31,38 +34,36 @@ fn pick(words: &[u32], others: &[u32], own: &mut [u32]) -> usize
     n
 }
 
-// The nodes of face f that face g has too, in front of a list of 64 words; answers how many.
-fn list_common(ix: &index::Index, f: usize, g: usize, own: &mut [u32]) -> usize
-    requires f_lt_faces { (f < ix.now.at.faces) × (g < ix.now.at.faces) }
-    requires own_len { length own.old ≡ 64 }
-    ensures count { (result ≡ length (common (set_of ix.now f) (set_of ix.now g))) × (result ≤ 64) }
-    ensures own_after { own.new ≡ sets own.old 0 (common (set_of ix.now f) (set_of ix.now g)) }
+// The nodes of face f that face g has too, kept in a list of 64 words.
+fn common<'a>(ix: &Index, f: usize, g: usize, own: &'a mut [u32; 64]) -> &'a [u32]
+    requires { (f < ix.now.at.faces) × (g < ix.now.at.faces) }
+    ensures { result.now ≡ common (set_of ix.now f) (set_of ix.now g) }
 {
-    pick(ix.set(f), ix.set(g), own)
+    let n = pick(ix.set(f), ix.set(g), own);
+    &own[..n]
 }
 
 // The common nodes span an area.
-pub fn spans(coords: &[f64], tol: f64, ix: &index::Index, f: usize, g: usize) -> bool
+pub fn spans(coords: &[f64], tol: f64, ix: &Index, f: usize, g: usize) -> bool
     requires f_lt_faces { (f < ix.now.at.faces) × (g < ix.now.at.faces) }
     requires nodes_value { ix.now.at.nodes ≡ node_count coords.now }
     ensures { result ≡ is_spans (area_of tol (points_of coords.now (common (set_of ix.now f) (set_of ix.now g)))) }
 {
-    let mut own = [0u32; 64];
-    let n = list_common(ix, f, g, &mut own);
-    area::common_nodes_span_area(coords, &own[..n], tol)
+    let mut own = [0; 64];
+    area::common_nodes_span_area(coords, common(ix, f, g, &mut own), tol)
 }
 
 // The number of the common nodes, and their centre.
-pub fn shared_of(coords: &[f64], ix: &index::Index, f: usize, g: usize) -> Shared
+pub fn shared_of(coords: &[f64], ix: &Index, f: usize, g: usize) -> Shared
     requires f_lt_faces { (f < ix.now.at.faces) × (g < ix.now.at.faces) }
     requires nodes_value { ix.now.at.nodes ≡ node_count coords.now }
     ensures count_value { (result.count ≡ length (common (set_of ix.now f) (set_of ix.now g))) × (result.count ≤ 64) }
     ensures centre_value { result.centre ≡ centre_of (points_of coords.now (common (set_of ix.now f) (set_of ix.now g))) }
 {
-    let mut own = [0u32; 64];
-    let n = list_common(ix, f, g, &mut own);
+    let mut own = [0; 64];
+    let nodes = common(ix, f, g, &mut own);
     Shared {
-        count: n,
-        centre: geometry::key_centroid(coords, &own[..n]),
+        count: nodes.len(),
+        centre: geometry::key_centroid(coords, nodes),
     }
 }

@@ -36,6 +36,7 @@ pub fn node_work(ix: &Index) -> usize
     ensures { result ≡ node_work ix.now.at (input_of ix.now) }
 {
     let mut total = 0;
+    // no `map(..).sum()`: that the closure, which asks for a node, may be called, and that each sum on the way fits, did not prove
     for n in 0..ix.at.nodes {
         total += pairs_of(ix.list_length(n));
     }
@@ -48,6 +49,7 @@ pub fn triple_work(ix: &Index) -> usize
     ensures { (result ≡ triple_work ix.now.at (input_of ix.now)) × (result ≤ 2 ^ 36) }
 {
     let mut total = 0;
+    // as above
     for g in 0..ix.at.faces {
         total += triples_of(ix.set_size(g));
     }

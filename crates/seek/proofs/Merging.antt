@@ -23,7 +23,7 @@ use Rattle.index.specs.declared.Places.{Places}
 use Rattle.index.specs.Faces.{input, nodes_of, words_of, faces_with, Indexed}
 use Rattle.merge.specs.Runs.{rest, stands, next, Lowest}
 use Rattle.seek.specs.Candidates.{common, shares}
-use Rattle.seek.specs.Steps.{Runs, early}
+use Rattle.seek.specs.Steps.{Runs, Forward, early}
 use Rattle.seek.proofs.Condition.{shares_early}
 use Rattle.index.proofs.Read.{below_words, node_low}
 
@@ -131,6 +131,17 @@ module _ (p : Places) (b : List ℕ) where
           ∙ get_or_within l 0 (map f ns) i 0 (omega (arith, length-map ns f)) (omega (arith, length-map ns f, ix.laid.few lo face))
           ∙ get_or_any (map f ns) i 0 (f 0) (omega (arith, length-map ns f))
           ∙ get_or-map f ns i 0
+
+      -- none ends before it begins
+      pub forward : Forward (length ns) (sets from 0 at_from) (sets to 0 at_to)
+      forward i h =
+          let n : ℕ = get_or ns i 0 in
+          omega (
+            arith,
+            put (λ n. p.index + below n (words_of p t)) from wide_from i h,
+            put (λ n. p.index + below (n + 1) (words_of p t)) to wide-to i h,
+            ap (λ (j : ℕ). below j (words_of p t)) (add-one n) ∙ below_suc n (words_of p t),
+          )
 
       -- the runs stand at their starts
       pub opened : Runs p b lo (length ns) 0 (sets from 0 at_from) (sets to 0 at_to)

@@ -1,42 +1,56 @@
 -- Ascending runs go on to their first numbers that are not below g.
-use Prim.Native.Nat.{ℕ, ◌+◌, ◌≤◌, ◌<◌}
+use Prim.Native.Nat.{ℕ, zero, suc, ◌+◌, ◌-◌, ◌≤◌, ◌<◌}
 use mathlib.Core.Path.{◌≡◌, refl, sym, ap, ◌∙◌, subst}
-use mathlib.Core.Bool.{true}
-use mathlib.Core.List.{List, []}
+use mathlib.Core.Bool.{true, false}
+use mathlib.Core.List.{List, [], ◌∷◌}
 use native.Mathlib.Omega.{arith}
 use native.Mathlib.Nat.{zero-add}
 use borrow.Author.Count.{below_more}
-use borrow.Author.Tests.{le-leb, lt-leb}
-use lib.Dec.{leb, leb-zero}
-use lib.ListN.{length, get_or, set, length-set}
+use borrow.Author.Tests.{le-leb, lt-leb, ltb-true, ltb-false}
+use lib.Dec.{leb, ltb}
+use lib.ListN.{length, get_or, drop, set, length-set}
+use native.Mathlib.Numerals.{add-one}
+use Rattle.std.specs.List.Sorted.{IsNonDecreasingBy, IsPartitionPoint}
+use Rattle.std.proofs.lemmas.List.Sorted.{IsNonDecreasingBy-from_all_adjacent}
 use lib.Seq.{get_or-set_same, get_or-set_other}
-use Rattle.laws.specs.Lists.{keep, elem}
-use Rattle.laws.specs.Merging.{Asc}
-use Rattle.laws.proofs.Ascending.{asc_keep, keep_cong, keep_skip, first_low}
+use Rattle.laws.specs.Lists.{keep}
+use Rattle.laws.specs.Merging.{region, Asc}
+use Rattle.laws.proofs.ListLaws.{get_or_any}
+use Rattle.laws.proofs.Stores.{length-region, drop-region}
+use Rattle.ascending.proofs.Adding.{rises}
+use Rattle.laws.proofs.Ascending.{asc_keep, keep_skip}
 use Rattle.index.specs.declared.Places.{Places}
 use Rattle.index.specs.Faces.{input, nodes_of, faces_with}
 use Rattle.merge.specs.Runs.{rest}
-use Rattle.merge.proofs.RunLaws.{rest_cons}
 use Rattle.seek.specs.Candidates.{shares}
-use Rattle.seek.specs.Steps.{Runs, Hidden, Rising, AllRising, Passed, up_to}
+use Rattle.seek.specs.Steps.{Runs, Hidden, AllRising, Passed, up_to}
 use Rattle.seek.proofs.Merging.{keep_all, asc_faces}
 
 -- ---- one run
 
--- numbers that are all at least g are all kept
-keep_high : (g : ℕ) (l : List ℕ) → ((n : ℕ) → elem n l ≡ true → g ≤ n) → keep (leb g) l ≡ l
-keep_high g l h = keep_cong (leb g) (leb 0) l (λ n e. le-leb g n (h n e) ∙ sym (leb-zero n)) ∙ keep_all l
+-- a list whose first p numbers, and no others, are below g
+kept_from : (g : ℕ) (l : List ℕ) (p : ℕ) → p ≤ length l → ((k : ℕ) → k < p → get_or l k 0 < g) → ((k : ℕ) → p ≤ k → k < length l → g ≤ get_or l k 0) → drop p l ≡ keep (leb g) l
+kept_from g [] zero h low high = refl
+kept_from g [] (suc p) h low high = absurd (omega arith)
+kept_from g (y ∷ l) zero h low high =
+    rw (le-leb g y (high 0 (omega arith) (omega arith))) (ap (λ (r : List ℕ). y ∷ r) (kept_from g l zero (omega arith) (λ k b. absurd (omega arith)) (λ k a b. high (suc k) (omega arith) (omega arith))))
+kept_from g (y ∷ l) (suc p) h low high =
+    rw (lt-leb g y (low 0 (omega arith))) (kept_from g l p (omega arith) (λ k b. low (suc k) (omega arith)) (λ k a b. high (suc k) (omega arith) (omega arith)))
 
-module _ (g i e : ℕ) (b : List ℕ) where
-  -- a number below g is passed over
-  pub skip_turn : i < e → e ≤ length b → get_or b i 0 < g → Rising i e b → Rising (i + 1) e b × (keep (leb g) (rest (i + 1) e b) ≡ keep (leb g) (rest i e b))
-  skip_turn h long low up =
-      let s = rest_cons i e b h long in
-      ((subst Asc s up).1, sym (ap (keep (leb g)) s ∙ rw (lt-leb g (get_or b i 0) low)))
+-- an ascending list is in the library's order
+pub asc_up : (l : List ℕ) → Asc l → IsNonDecreasingBy (λ (y : ℕ). y) l
+asc_up l up = IsNonDecreasingBy-from_all_adjacent (λ (y : ℕ). y) l
+    (λ k d h. rw (get_or_any l k d 0 (omega arith), get_or_any l (k + 1) d 0 h, add-one k) (omega (arith, rises l k up (omega arith))))
 
-  -- at one that is not, all are kept
-  pub skip_stop : i < e → e ≤ length b → g ≤ get_or b i 0 → Rising i e b → rest i e b ≡ keep (leb g) (rest i e b)
-  skip_stop h long high up = sym (keep_high g (rest i e b) (λ n f. omega (arith, high, first_low (rest i e b) 0 n up f, ap (λ (l : List ℕ). get_or l 0 0) (rest_cons i e b h long))))
+-- where the library finds the first number that is not below g, p words behind x
+pub skipped_to : (g x e : ℕ) (b : List ℕ) (p : ℕ) → x ≤ e → e ≤ length b → p ≤ length (rest x e b) → IsPartitionPoint (λ y. ltb y g ≡ true) (λ y. ltb y g ≡ false) (rest x e b) p
+    → rest (x + p) e b ≡ keep (leb g) (rest x e b)
+skipped_to g x e b p fwd h most at =
+    let l = rest x e b in
+    let long : length l ≡ e - x = length-region x (e - x) b (omega arith) in
+    let n : e - (x + p) ≡ e - x - p = omega arith in
+    ap (λ (k : ℕ). region (x + p) k b) n ∙ sym (drop-region x (e - x) p b (omega arith))
+    ∙ kept_from g l p most (λ k i. ltb-true _ g (at.0 k 0 (omega arith) i)) (λ k i j. ltb-false _ g (at.1 k 0 i j))
 
 -- ---- all runs
 

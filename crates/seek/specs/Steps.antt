@@ -34,6 +34,10 @@ Rising x e b = Asc (rest x e b)
 abbrev pub AllRising : ℕ → List ℕ → List ℕ → List ℕ → Type 0
 AllRising k b from to = (i : ℕ) → i < k → Rising (get_or from i 0) (get_or to i 0) b
 
+-- none of k runs ends before it begins
+abbrev pub Forward : ℕ → List ℕ → List ℕ → Type 0
+Forward k from to = (i : ℕ) → i < k → get_or from i 0 ≤ get_or to i 0
+
 -- from became onto: each of k runs goes on to its first number that is not below g
 pub record Passed (k g : ℕ) (b from onto to : List ℕ) : Type 0 where
   pub wide : length onto ≡ length from

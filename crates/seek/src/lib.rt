@@ -9,7 +9,7 @@ ghost use Rattle.index.specs.Faces.{input, base, words_of};
 ghost use Rattle.index.specs.Read.{input_of, set_of};
 ghost use Rattle.merge.specs.Runs.{rest, Ends};
 ghost use Rattle.seek.specs.Candidates.{common, shares, Ready, Sought, went_by_nodes, SoughtBy, TalliedMore};
-ghost use Rattle.seek.specs.Steps.{Runs, Hidden, Rising, AllRising, Passed, Begun, one, apart};
+ghost use Rattle.seek.specs.Steps.{Runs, Hidden, Rising, AllRising, Forward, Passed, Begun, one, apart};
 
 use index::Index;
 
@@ -147,20 +147,15 @@ fn merge_runs(work: &mut [u32], at: index::Places, lo: usize, runs: &mut merge::
 
 // Where the ascending run from x to e has its first number that is not below `end`.
 fn skip_run(base: &[u32], x: usize, e: usize, end: usize) -> usize
-    requires { (e ≤ length base.now) × Rising x e base.now }
+    requires { (x ≤ e) × (e ≤ length base.now) × Rising x e base.now }
     ensures { rest result e base.now ≡ keep (leb end) (rest x e base.now) }
 {
-    for i in x..e {
-        if end <= base[i] as usize {
-            return i;
-        }
-    }
-    e
+    x + base[x..e].partition_point(|&g| (g as usize) < end)
 }
 
 // Each run, which ascends, goes on to its first number that is not below `end`.
 fn skip_runs(base: &[u32], runs: &mut merge::Runs, end: usize)
-    requires ends { Ends runs.old.count runs.old.to base.now }
+    requires ends { Ends runs.old.count runs.old.to base.now × Forward runs.old.count runs.old.from runs.old.to }
     requires rising { AllRising runs.old.count base.now runs.old.from runs.old.to }
     ensures passed { Passed runs.old.count end base.now runs.old.from runs.new.from runs.old.to }
     ensures others { (runs.new.count ≡ runs.old.count) × (runs.new.to ≡ runs.old.to) }

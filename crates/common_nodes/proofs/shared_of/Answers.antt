@@ -1,32 +1,20 @@
 -- `common_nodes::shared_of` meets its contract.
-use mathlib.Core.Path.{refl, ap, ◌∙◌}
-use mathlib.Core.List.{List}
-use Prim.Native.Nat.{ℕ, ◌≤◌}
-use lib.ListN.{length}
+use mathlib.Core.Path.{sym, ap, subst}
 use native.Mathlib.Omega.{arith}
-use Rattle.geometry.specs.Points.{points_of, centre_of}
-use Rattle.index.specs.Read.{set_of}
-use Rattle.seek.specs.Candidates.{common}
-use Rattle.index.proofs.Read.{node_low}
-use Rattle.common_nodes.proofs.Picking.{common_in, front, front_in}
+use lib.ListN.{length}
+use Rattle.geometry.specs.Steps.{InNodes}
+use Rattle.common_nodes.proofs.Picking.{common_in, common_few}
 use Rattle.common_nodes.proofs.shared_of.Goals as goal
 
 pub key_centroid-requires : goal.key_centroid-requires
 key_centroid-requires c =
-    let a = c.args in
-    let i = a.ix.now in
-    let A = set_of i a.f in
-    let B = set_of i a.g in
-    let most : length (common A B) ≤ 64 = omega (arith, c.list_common-n.ensures.count) in (
-      front_in a.coords.now _ _ (common A B) _ c.list_common-n.ensures.own_after c.list_common-n.ensures.count.0 refl most (common_in a.coords.now i.at.nodes A B c.requires.nodes_value (λ k h. node_low i.at i.base.now i.indexed a.f k c.requires.f_lt_faces.0 h)),
-      omega (arith, most, ap length (front _ _ (common A B) _ c.list_common-n.ensures.own_after c.list_common-n.ensures.count.0 refl most)),
+    let a = c.args in (
+      subst (InNodes a.coords.now) (sym c.common-nodes.ensures) (common_in a.coords.now a.ix.now a.f a.g c.requires.f_lt_faces.0 c.requires.nodes_value),
+      omega (arith, ap length c.common-nodes.ensures, common_few a.ix.now a.f a.g c.requires.f_lt_faces.0),
     )
 
-pub returns-clause-centre_value : goal.returns-clause-centre_value
-returns-clause-centre_value c =
+pub returns-clause-count_value : goal.returns-clause-count_value
+returns-clause-count_value c =
     let a = c.args in
-    let i = a.ix.now in
-    let A = set_of i a.f in
-    let B = set_of i a.g in
-    let most : length (common A B) ≤ 64 = omega (arith, c.list_common-n.ensures.count) in
-    c.key_centroid.ensures ∙ ap (λ (l : List ℕ). centre_of (points_of a.coords.now l)) (front _ _ (common A B) _ c.list_common-n.ensures.own_after c.list_common-n.ensures.count.0 refl most)
+    let n = ap length c.common-nodes.ensures in
+    (n, omega (arith, n, common_few a.ix.now a.f a.g c.requires.f_lt_faces.0))

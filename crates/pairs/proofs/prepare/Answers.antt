@@ -1,10 +1,8 @@
 -- `pairs::prepare` meets its contract. What the index ensures is what the searches require (`ready_first`).
-use Prim.Native.Nat.{ℕ, ◌≤◌}
-use mathlib.Core.Bool.{Bool}
+use Prim.Native.Nat.{ℕ}
 use mathlib.Core.List.{List}
 use mathlib.Core.Path.{◌≡◌, sym, ap, ◌∙◌, subst}
 use native.Mathlib.Omega.{arith}
-use lib.ListN.{length}
 use Rattle.index.specs.Faces.{input, base, Indexed}
 use Rattle.index.proofs.Built.{built, input_is}
 use Rattle.index.proofs.Read.{of_index}

@@ -1,18 +1,14 @@
--- `seek::skip_run` meets its contract. What is kept of the run from i on is what is kept of the whole.
-use mathlib.Core.Path.{◌∙◌}
-use native.Mathlib.Omega.{arith}
-use Rattle.seek.proofs.Skipping.{skip_turn, skip_stop}
+-- `seek::skip_run` meets its contract. The part is the run, and what the library finds in it is where it goes on (`skipped_to`).
+use Rattle.std.proofs.Common.{ltb, rules}
+use Rattle.std.proofs.lemmas.List.Sorted.{IsPartitionPoint-from_clause, IsPartitionedBy-ltb}
+use Rattle.merge.specs.Runs.{rest}
+use Rattle.seek.proofs.Skipping.{asc_up, skipped_to}
 use Rattle.seek.proofs.skip_run.Goals as goal
 
-pub returns-then-end-base : goal.returns-then-end-base
-returns-then-end-base c =
+pub returns : goal.returns
+returns c =
     let a = c.args in
-    let l = c.loop-i in
-    skip_stop a.end l.i a.e a.base.now c.loop-i-test.true c.requires.0 (omega arith) l.invariant.0 ∙ l.invariant.1
-
-pub loop-i-preserved : goal.loop-i-preserved
-loop-i-preserved c =
-    let a = c.args in
-    let l = c.loop-i in
-    let t = skip_turn a.end l.i a.e a.base.now c.loop-i-test.true c.requires.0 (omega arith) l.invariant.0 in
-    (t.0, t.1 ∙ l.invariant.1)
+    let l = rest a.x a.e a.base.now in
+    let parted = IsPartitionedBy-ltb (λ y. y) l a.end (asc_up l c.requires.2) in
+    let at = IsPartitionPoint-from_clause (λ y. ltb y a.end) l _ c.partition_point.ensures.partitioned parted (λ b r q k. search rules) in
+    skipped_to a.end a.x a.e a.base.now c.partition_point.result c.requires.0 c.requires.1 c.partition_point.ensures.bound at

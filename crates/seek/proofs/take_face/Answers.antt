@@ -1,7 +1,7 @@
 -- `seek::take_face` meets its contract. How many runs had g next is how many nodes it shares (`counted`).
 use Prim.Native.Nat.{ℕ, ◌+◌, ◌<◌}
 use mathlib.Core.List.{List, map}
-use mathlib.Core.Path.{◌≡◌, sym, ap, ◌∙◌, subst}
+use mathlib.Core.Path.{sym, ap, ◌∙◌, subst}
 use lib.Seq.{sets}
 use Rattle.laws.specs.Lists.{up_from}
 use Rattle.index.specs.Faces.{base}
