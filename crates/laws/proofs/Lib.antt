@@ -5,6 +5,7 @@ pub mod Ascending
 pub mod Sorting
 pub mod Permutations
 pub mod Stores
+pub mod Rows
 pub mod Tables
 pub mod Bounds
 pub mod ByteLaws

@@ -18,7 +18,7 @@ use Rattle.findings.specs.Rules.{bow_of}
 use Rattle.layout.specs.declared.Layout.{Layout}
 use Rattle.layout.specs.ByCell.{bit}
 use Rattle.tables.specs.Owners.{owners_from}
-use Rattle.tables.proofs.Shown.{joined}
+use Rattle.laws.proofs.Rows.{joined}
 use Rattle.model_tables.specs.Planned.{Planned}
 use Rattle.model_tables.proofs.Reading.{Holds}
 

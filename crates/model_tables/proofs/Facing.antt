@@ -25,7 +25,8 @@ use Rattle.layout.specs.Tables.{ring_row, key_row, first_of, faces_at, Faced}
 use Rattle.layout.specs.ByCell.{bit}
 use Rattle.tables.specs.Owners.{owners_from}
 use Rattle.tables.proofs.Passing.{owners_length}
-use Rattle.tables.proofs.Shown.{joined, starts_length, joined_next, start_read, row_read, cell_read, faces_read, first_last, owned}
+use Rattle.laws.proofs.Rows.{joined, starts_length, joined_next, start_read, row_read}
+use Rattle.tables.proofs.Shown.{cell_read, faces_read, first_last, owned}
 use Rattle.model_tables.proofs.Sizes.{below-sets, length_set_of, sets_total}
 use Rattle.model_tables.proofs.Reading.{holds_long, each_most}
 use Rattle.model_tables.proofs.Contents.{meets, Settled, RingTables, FaceTables}

@@ -27,7 +27,8 @@ use Rattle.layout.specs.declared.Layout.{Layout}
 use Rattle.layout.specs.Tables.{ring_row, first_of, Ringed}
 use Rattle.layout.specs.ByCell.{ring_bow, cell_bow, bit}
 use Rattle.node_sets.specs.Sets.{keys_of, sets_from}
-use Rattle.tables.proofs.Shown.{joined, starts_length, joined_next, start_read, row_read, first_read, firsts_rise}
+use Rattle.laws.proofs.Rows.{joined, starts_length, joined_next, start_read, row_read}
+use Rattle.tables.proofs.Shown.{first_read, firsts_rise}
 use Rattle.model_tables.proofs.Sizes.{sized_cells, sized_at, below_ring}
 use Rattle.model_tables.proofs.Welds.{welded_below}
 use Rattle.model_tables.proofs.Reading.{holds_long, map-up_from, any-up_from, each_most, each_next, each_at}

@@ -20,7 +20,7 @@ use Rattle.layout.specs.ByCell.{cell_bow, bit}
 use Rattle.node_sets.specs.Sets.{keys_of, sets_from}
 use Rattle.tables.specs.Owners.{owners_from}
 use Rattle.tables.proofs.Passing.{owners_length}
-use Rattle.tables.proofs.Shown.{joined, starts_length}
+use Rattle.laws.proofs.Rows.{joined, starts_length}
 use Rattle.model_tables.proofs.Sizes.{sets_total, keys_total}
 use Rattle.model_tables.proofs.Reading.{Holds, holds_put, holds_before, holds_take}
 use Rattle.model_tables.proofs.Contents.{meets, Settled, RingTables, FaceTables, Marked, Tabled}

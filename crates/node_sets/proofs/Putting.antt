@@ -1,16 +1,17 @@
 -- Node sets: read off the keys, and one after the other.
 use Prim.Native.Nat.{ℕ, suc, ◌+◌, ◌-◌, ◌≤◌, ◌<◌}
-use mathlib.Core.Path.{◌≡◌, refl, sym, ap, ap₂, ◌∙◌}
-use mathlib.Core.List.{List, [], ◌∷◌}
+use mathlib.Core.Path.{◌≡◌, sym, ap, ap₂, ◌∙◌}
+use mathlib.Core.List.{List, ◌∷◌}
 use native.Mathlib.Numerals.{add-one}
 use native.Mathlib.Omega.{arith}
 use lib.Dec.{leb}
 use lib.ListN.{length, get_or, take, length-map}
-use Rattle.laws.specs.Lists.{each, up_from}
+use Rattle.laws.specs.Lists.{up_from}
 use Rattle.laws.specs.Merging.{region, starts_of}
 use Rattle.laws.proofs.ListLaws.{length-up_from}
 use Rattle.laws.proofs.Sorting.{by_number}
 use Rattle.laws.proofs.Stores.{region-take}
+use Rattle.laws.proofs.Rows.{starts_length}
 use Rattle.mesh.specs.Rings.{node_set}
 use Rattle.layout.specs.declared.Layout.{Layout}
 use Rattle.layout.specs.Tables.{ring_row}
@@ -42,18 +43,10 @@ module _ (l : Layout) (w : List ℕ) (f : Keyed l w) where
         ∙ ap (unique leb) (key_at l t f.fit.ringed g h)
         ∙ unique_sort leb by_number (ring_row l t g)
 
--- there is one start more than lists
-starts_length : (k : ℕ) (S : List (List ℕ)) → length (starts_of k S) ≡ length S + 1
-starts_length k [] = refl
-starts_length k (s ∷ S) = omega (arith, starts_length (k + length s) S)
-
+-- there is one start more than faces
 pub starts_long : (l : Layout) (t : List ℕ) → length (starts_of 0 (sets_from l t 0 l.at.faces)) ≡ l.at.faces + 1
 starts_long l t =
     omega (arith, starts_length 0 (sets_from l t 0 l.at.faces), length-map (up_from 0 l.at.faces) (λ (i : ℕ). node_set (ring_row l t i)), length-up_from 0 l.at.faces)
-
--- all of some lists, one after the other
-abbrev pub joined : List (List ℕ) → List ℕ
-joined S = each (λ s. s) S
 
 -- one face less is left
 pub sets_next : (l : Layout) (t : List ℕ) (n g : ℕ) → g < n → sets_from l t g (n - g) ≡ node_set (ring_row l t g) ∷ sets_from l t (g + 1) (n - (g + 1))

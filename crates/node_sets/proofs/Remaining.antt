@@ -8,11 +8,12 @@ use lib.ListN.{length, get_or, set, length-append}
 use lib.Seq.{sets}
 use Rattle.laws.specs.Merging.{starts_of}
 use Rattle.laws.proofs.Stores.{sets_append}
+use Rattle.laws.proofs.Rows.{joined}
 use Rattle.mesh.specs.Rings.{node_set}
 use Rattle.layout.specs.declared.Layout.{Layout}
 use Rattle.layout.specs.Tables.{ring_row, Ringed}
 use Rattle.node_sets.specs.Sets.{sets_from}
-use Rattle.node_sets.proofs.Putting.{joined, sets_next}
+use Rattle.node_sets.proofs.Putting.{sets_next}
 
 -- the node sets of the faces from g on
 abbrev remaining : Layout → List ℕ → ℕ → List (List ℕ)

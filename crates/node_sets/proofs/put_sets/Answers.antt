@@ -6,10 +6,11 @@ use native.Mathlib.Omega.{arith}
 use lib.ListN.{length, get_or, take, drop, length-take}
 use lib.Seq.{sets, take-take}
 use Rattle.laws.specs.Merging.{region, starts_of}
+use Rattle.laws.proofs.Rows.{joined}
 use Rattle.mesh.specs.Rings.{node_set}
 use Rattle.layout.specs.Tables.{ring_row}
 use Rattle.layout.proofs.Split.{rest_put, both_put}
-use Rattle.node_sets.proofs.Putting.{keys_are, row_rises, set_is, starts_long, joined}
+use Rattle.node_sets.proofs.Putting.{keys_are, row_rises, set_is, starts_long}
 use Rattle.node_sets.proofs.Remaining.{Left, left_next, all, done_count, done_most, done_starts, done_put}
 use Rattle.node_sets.proofs.put_sets.Goals as goal
 

@@ -14,7 +14,7 @@ use Rattle.mesh.proofs.CellWords.{cells_count}
 use Rattle.faces.proofs.Rings.{few_faces}
 use Rattle.rings.proofs.Putting.{putting_room, putting_next}
 use Rattle.tables.proofs.Passing.{firsts_next, faces_left}
-use Rattle.tables.proofs.Shown.{starts_length}
+use Rattle.laws.proofs.Rows.{starts_length}
 use Rattle.tables.proofs.put_firsts.Goals as goal
 
 pub overflow_cast-work : goal.overflow_cast-work
