@@ -27,7 +27,8 @@ fn least(group: &[u32]) -> u32
     group[1..].iter().fold(group[0], |m, n| m.min(*n))
 }
 
-// Each of the nodes in [g, e) of work gets the mark v, among the words from k on.
+// Each of the nodes in [g, e) of work gets the mark v, among the words from k on. By index: the group is read and the marks are written in one
+// slice, and to split it in two for each group would be no plainer.
 fn put(work: &mut [u32], g: usize, e: usize, k: usize, size: usize, v: u32)
     requires { (g ≤ e) × (e ≤ k) × (k + size ≤ length work.old) × AllBelow size (slice g e work.old) }
     ensures { work.new ≡ put_all k v (slice g e work.old) work.old }
