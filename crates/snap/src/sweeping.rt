@@ -115,7 +115,7 @@ impl Space<'_> {
     }
 
     // The sorted nodes in [o, e) of work lead in turn; the words from g on are room for a group.
-    pub fn sweep(&self, work: &mut [u32], o: usize, e: usize, g: usize, k: usize)
+    pub(crate) fn sweep(&self, work: &mut [u32], o: usize, e: usize, g: usize, k: usize)
         requires { (o ≤ e) × (e ≤ g) × (g + (e - o) ≤ k) × (k + node_count self.now.coords.now ≤ length work.old) × AllBelow (node_count self.now.coords.now) (slice o e work.old) × InOrder self.now.coords.now o e work.old }
         ensures { (numbers 0 (region k (node_count self.now.coords.now) work.new) ≡ weld_from self.now.coords.now self.now.tolerance k (node_count self.now.coords.now) o e work.old) × But g (k + node_count self.now.coords.now) work.old work.new }
     {
