@@ -9,7 +9,7 @@ ghost use Rattle.refusals.specs.Told.{told};
 ghost use Rattle.geometry.specs.Points.{point_dot, point_cross, length_of, points_of};
 ghost use Rattle.geometry.specs.Nodes.{points_in};
 ghost use Rattle.geometry.specs.Steps.{InNodes};
-ghost use Rattle.area.specs.AreaTest.{extent_of, direction_of, thick_of, area_of, is_spans, list_off, area_answer};
+ghost use Rattle.area.specs.AreaTest.{extent_of, direction_of, thick_of, area_number, area_of, is_spans, list_off, area_answer};
 ghost use Rattle.area.specs.Steps.{away_from, most_of};
 
 use geometry::{Nodes, Point};
@@ -23,6 +23,15 @@ pub enum Area {
     NoDirection,
     Thin,
     Spans,
+}
+
+// The number of what the test says.
+impl From<Area> for u32 {
+    ghost from_gives = { λ area number. number ≡ area_number area };
+
+    fn from(area: Area) -> u32 {
+        area as u32
+    }
 }
 
 // ---- differences from the first node, of the nodes after it
