@@ -9,7 +9,7 @@ ghost use Rattle.refusals.specs.Told.{told};
 ghost use Rattle.geometry.specs.Points.{point_dot, point_cross, length_of, points_of};
 ghost use Rattle.geometry.specs.Nodes.{points_in};
 ghost use Rattle.geometry.specs.Steps.{InNodes};
-ghost use Rattle.area.specs.AreaTest.{extent_of, direction_of, thick_of, area_of, area_number, is_spans, list_off, area_answer};
+ghost use Rattle.area.specs.AreaTest.{extent_of, direction_of, thick_of, area_number, area_of, is_spans, list_off, area_answer};
 ghost use Rattle.area.specs.Steps.{away_from, most_of};
 
 use geometry::{Nodes, Point};
@@ -25,11 +25,12 @@ pub enum Area {
     Spans,
 }
 
+// The number of what the test says.
 impl From<Area> for u32 {
-    ghost from_gives = { λ a n. n ≡ area_number a };
+    ghost from_gives = { λ area number. number ≡ area_number area };
 
-    fn from(a: Area) -> u32 {
-        a as u32
+    fn from(area: Area) -> u32 {
+        area as u32
     }
 }
 

@@ -1,15 +1,11 @@
--- A search from j up to n: one turn that finds nothing.
-use mathlib.Core.Path.{◌≡◌}
-use mathlib.Core.Bool.{Bool, false}
-use Prim.Native.Nat.{ℕ, suc, ◌+◌, ◌-◌, ◌<◌}
+-- A search over a range of numbers.
+use mathlib.Core.Path.{◌≡◌, refl, ap, ◌∙◌}
+use mathlib.Core.Bool.{Bool, ◌||◌}
+use Prim.Native.Nat.{ℕ, zero, suc, ◌+◌}
 use native.Mathlib.Numerals.{add-one}
-use native.Mathlib.Omega.{arith}
+use Rattle.std.specs.List.{list_any, range_with_len}
 use Rattle.laws.specs.Lists.{any, up_from}
 
--- one number less to search
-more : (n j : ℕ) → j < n → n - j ≡ suc (n - (j + 1))
-more n j h = omega arith
-
--- j is none: search on
-pub any_skip : (f : ℕ → Bool) (n j : ℕ) → j < n → f j ≡ false → any f (up_from j (n - j)) ≡ any f (up_from (j + 1) (n - (j + 1)))
-any_skip f n j h t = rw (more n j h, add-one j) (simp t)
+pub any_in_range : (f : ℕ → Bool) (a n : ℕ) → list_any f (range_with_len a n) ≡ any f (up_from a n)
+any_in_range f a zero = refl
+any_in_range f a (suc n) = ap (λ (b : Bool). f a || b) (any_in_range f (a + 1) n ∙ ap (λ (k : ℕ). any f (up_from k n)) (add-one a))

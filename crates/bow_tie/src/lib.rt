@@ -178,23 +178,17 @@ fn pair_meets(ring: &Nodes, eps: f64, a: Point, b: Point, i: usize, j: usize) ->
 }
 
 // Edge i meets a later one.
-#[tactic(auto, using(geometry::proofs::Listed::points_length, crate::proofs::Sought::any_skip), unfolding(crate::specs::BowTie::later_meets))]
 fn later_meets(ring: &Nodes, eps: f64, i: usize) -> bool
     requires { i < length ring.now.nodes.now }
     ensures { result ≡ later_meets eps (points_in ring.now) i }
 {
     let a = ring.point(i);
     let b = following_at(ring, i);
-    for j in i + 2..ring.nodes.len() {
-        if pair_meets(ring, eps, a, b, i, j) {
-            return true;
-        }
-    }
-    false
+    (i + 2..ring.nodes.len()).any(|j| pair_meets(ring, eps, a, b, i, j))
 }
 
 // Two edges of the ring that are not neighbours share a point.
-#[tactic(auto, using(geometry::proofs::Listed::points_length, crate::proofs::Sought::any_skip), unfolding(crate::specs::BowTie::bow_tie_of))]
+#[tactic(auto, using(geometry::proofs::Listed::points_length), unfolding(crate::specs::BowTie::bow_tie_of))]
 pub fn face_self_intersects(coords: &[f64], ring: &[u32], tol: f64) -> bool
     requires { InNodes coords.now ring.now × (length ring.now ≤ 64) }
     ensures { result ≡ bow_tie_of tol (points_of coords.now ring.now) }
@@ -207,10 +201,5 @@ pub fn face_self_intersects(coords: &[f64], ring: &[u32], tol: f64) -> bool
         nodes: ring,
     };
     let eps = geometry::margin(tol, corners.scale());
-    for i in 0..ring.len() {
-        if later_meets(&corners, eps, i) {
-            return true;
-        }
-    }
-    false
+    (0..ring.len()).any(|i| later_meets(&corners, eps, i))
 }

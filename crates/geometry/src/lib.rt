@@ -16,8 +16,8 @@ pub use nodes::Nodes;
 // ---- points
 
 // A point: one value of three coordinates. It goes by value, and its sums and products are functions, no operators: both forms are named by
-// document 01.
-#[derive(Clone, Copy)]
+// document 01. Its default is the origin.
+#[derive(Clone, Copy, Default)]
 pub struct Point {
     pub x: f64,
     pub y: f64,
@@ -137,11 +137,7 @@ pub fn key_centroid(coords: &[f64], nodes: &[u32]) -> Point
     requires { InNodes coords.now nodes.now × (length nodes.now ≤ 9007199254740992) }
     ensures { result ≡ centre_of (points_of coords.now nodes.now) }
 {
-    let mut s = Point {
-        x: 0.0,
-        y: 0.0,
-        z: 0.0,
-    };
+    let mut s = Point::default();
     for node in nodes {
         s = plus(s, point3(coords, *node));
     }
@@ -199,7 +195,7 @@ pub fn coordinate_off(x: f64) -> bool
     !(from & to)
 }
 
-// 7: some coordinate is off. No early exit: so the loop becomes vector code.
+// 7: some coordinate is off. No early exit: so the loop becomes vector code, which `iter().any`, that ends at the first, does not.
 pub fn coordinates_off(coords: &[f64]) -> bool
     ensures { result ≡ coordinates_off coords.now }
 {

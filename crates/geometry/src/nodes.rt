@@ -1,4 +1,4 @@
-// Nodes over coordinates: each number is a node's, which the functions on nodes need not ask for again.
+// Numbers of nodes beside the coordinates: a ghost field keeps that each is a node's, so its methods do not ask for it.
 ghost use Rattle.std.specs.Prelude.{◌≡◌, ◌<◌, length, get_or};
 ghost use Rattle.geometry.specs.Steps.{InNodes};
 

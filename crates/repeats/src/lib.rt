@@ -9,7 +9,8 @@ ghost use Rattle.mesh.specs.Rings.{nodes_in};
 ghost use Rattle.repeats.specs.Marks.{hit, mark, weld_in, marks_in, place_of, Sound, Numbered, Noting, Noted, Found};
 ghost use Rattle.repeats.specs.Repeats.{Ready, Listed};
 
-// Where the regions of the work lie: welded numbers and marks, one for each of the nodes; pairs; room to sort them.
+// Where the regions of the work lie: welded numbers and marks, one for each of the nodes; pairs; room to sort them. Layout, in a crate above,
+// has the same places among its own: with a Regions inside, the welded numbers, which other passes read too, would stand apart from its tables.
 #[derive(Clone, Copy)]
 pub struct Regions {
     pub nodes: usize,
@@ -28,16 +29,19 @@ fn put_pair(work: &mut [u32], o: usize, n: u32, q: u32)
     work[o + 1] = n.max(q);
 }
 
-// Node n, where its welded number's mark is p: its pair, if there is one, goes to o; says how many that are.
+// Node n, where its welded number's mark is p: its pair, if there is one, goes to o; says how many that are. A mark is one word of the
+// lent work, where an Option would take two: 0 for none, else the node plus one.
 fn put_hit(work: &mut [u32], o: usize, n: u32, p: u32) -> usize
     requires { (o + 2 ≤ length work.old) × (n + 1 < 2 ^ 32) }
     ensures { (result ≡ length (hit n p)) × (work.new ≡ sets work.old o (flat (hit n p))) }
 {
-    if p == 0 || p == n + 1 {
-        return 0;
+    match p.checked_sub(1) {
+        Some(q) if q != n => {
+            put_pair(work, o, n, q);
+            1
+        }
+        _ => 0,
     }
-    put_pair(work, o, n, p - 1);
-    1
 }
 
 // Where node n's mark stands.

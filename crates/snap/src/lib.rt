@@ -26,15 +26,13 @@ pub fn clear(work: &mut [u32], k: usize, n: usize)
     work[k..k + n].fill(0);
 }
 
-// The number that the mark w gives node i.
+// The number that the mark w gives node i. A mark is one word of the lent work, where an Option would take two: 0 for none, else the
+// number plus one.
 #[tactic(auto, unfolding(crate::specs::Steps::number_of))]
 fn number_of(i: u32, w: u32) -> u32
     ensures { result ≡ number_of i w }
 {
-    if w == 0 {
-        return i;
-    }
-    w - 1
+    w.checked_sub(1).unwrap_or(i)
 }
 
 // Each mark becomes the number that it gives its node. By index: after an adapter of iter_mut a proof knows nothing of the elements.

@@ -125,7 +125,7 @@ impl Space<'_> {
     ghost use Rattle.snap.specs.Steps.{InOrder, PassedOver};
 
     // The node at j is passed over by the leader; the place behind it and others that are passed over too.
-    pub fn past(&self, work: &[u32], leader: u32, j: usize, e: usize) -> usize
+    pub(crate) fn past(&self, work: &[u32], leader: u32, j: usize, e: usize) -> usize
         requires { (j < e) × (e ≤ length work.now) × (leader < node_count self.now.coords.now) × AllBelow (node_count self.now.coords.now) (slice j e work.now) × InOrder self.now.coords.now j e work.now × (far_of self.now.coords.now self.now.tolerance leader (get_or work.now j 0) ≡ false) × (near_of self.now.coords.now self.now.tolerance leader (get_or work.now j 0) ≡ false) }
         ensures { (j < result) × (result ≤ e) × PassedOver self.now.coords.now self.now.tolerance leader j result work.now }
     {

@@ -27,7 +27,8 @@ fn least(group: &[u32]) -> u32
     group[1..].iter().fold(group[0], |m, n| m.min(*n))
 }
 
-// Each of the nodes in [g, e) of work gets the mark v, among the words from k on.
+// Each of the nodes in [g, e) of work gets the mark v, among the words from k on. By index: the group is read and the marks are written in one
+// slice, and to split it in two for each group would be no plainer.
 fn put(work: &mut [u32], g: usize, e: usize, k: usize, size: usize, v: u32)
     requires { (g ≤ e) × (e ≤ k) × (k + size ≤ length work.old) × AllBelow size (slice g e work.old) }
     ensures { work.new ≡ put_all k v (slice g e work.old) work.old }
@@ -114,7 +115,7 @@ impl Space<'_> {
     }
 
     // The sorted nodes in [o, e) of work lead in turn; the words from g on are room for a group.
-    pub fn sweep(&self, work: &mut [u32], o: usize, e: usize, g: usize, k: usize)
+    pub(crate) fn sweep(&self, work: &mut [u32], o: usize, e: usize, g: usize, k: usize)
         requires { (o ≤ e) × (e ≤ g) × (g + (e - o) ≤ k) × (k + node_count self.now.coords.now ≤ length work.old) × AllBelow (node_count self.now.coords.now) (slice o e work.old) × InOrder self.now.coords.now o e work.old }
         ensures { (numbers 0 (region k (node_count self.now.coords.now) work.new) ≡ weld_from self.now.coords.now self.now.tolerance k (node_count self.now.coords.now) o e work.old) × But g (k + node_count self.now.coords.now) work.old work.new }
     {

@@ -32,7 +32,8 @@ fn mark_named(words: &[u32], work: &mut [u32], k: usize, n: usize)
     }
 }
 
-// The nodes that are marked, among the n words from k on, go to the front, ascending; answers how many.
+// The nodes that are marked, among the n words from k on, go to the front, ascending; answers how many. By index, with a count beside it: the
+// list grows in the slice whose marks are read.
 fn list_marked(work: &mut [u32], k: usize, n: usize) -> usize
     requires { (n ≤ k) × (k + n ≤ length work.old) × (n < 2 ^ 32) }
     ensures { (result ≡ length (keep (marked k work.old) (up_from 0 n))) × (work.new ≡ sets work.old 0 (keep (marked k work.old) (up_from 0 n))) }

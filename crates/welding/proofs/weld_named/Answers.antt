@@ -24,9 +24,6 @@ returns-then-tol c =
     let u = unwelded a.coords.now a.tol (named_nodes a.words.now) a.work.now _ (a.n + a.n) a.n (omega (arith, c.requires.1)) (filled a.work.now (a.n + a.n) a.n a.n refl (omega (arith, c.requires.1)) (up_from 0) (length-up_from 0 a.n) c.number.ensures) z in
     (u.0 ∙ ap (λ (k : ℕ). welded a.coords.now a.tol k (named_nodes a.words.now)) c.requires.0, u.1)
 
-pub list_named-used-requires : goal.list_named-used-requires
-list_named-used-requires c = (c.requires.1, c.requires.2, c.requires.4)
-
 pub invariant_of-space : goal.invariant_of-space
 invariant_of-space c = record { sound = c.requires.3; few = omega (arith, c.requires.0, c.requires.2) }
 
