@@ -10,7 +10,7 @@ use lib.Ieee.{Float}
 use borrow.Author.Tests.{leb-false}
 use Rattle.laws.specs.Lists.{any}
 use Rattle.laws.specs.Refusals.{Answer, refused, done, refusal, answer}
-use Rattle.laws.proofs.Tests.{or_none}
+use Rattle.std.proofs.lemmas.Bool.{or_parts}
 use Rattle.geometry.specs.Steps.{InNodes}
 use Rattle.area.specs.declared.Area.{Area}
 use Rattle.area.specs.AreaTest.{ascends_from, list_off}
@@ -58,11 +58,11 @@ below n [] i e h = absurd (no h)
   where
     no : i < 0 → ⊥
     no h = omega arith
-below n (k ∷ ks) zero e h = leb-false n k (or_none (leb n k) (any (λ k. leb n k) ks) e).0
-below n (k ∷ ks) (suc i) e h = below n ks i (or_none (leb n k) (any (λ k. leb n k) ks) e).1 (omega arith)
+below n (k ∷ ks) zero e h = leb-false n k (or_parts (leb n k) (any (λ k. leb n k) ks) e).0
+below n (k ∷ ks) (suc i) e h = below n ks i (or_parts (leb n k) (any (λ k. leb n k) ks) e).1 (omega arith)
 
 -- so a list that is not off holds nodes
 pub in_nodes : (c : List Float) (ks : List ℕ) → list_off (length c / 3) ks ≡ false → InNodes c ks
 in_nodes c ks e i h =
-    let b : get_or ks i 0 < length c / 3 = below (length c / 3) ks i (or_none (not (ascends_from 0 ks)) (any (λ k. leb (length c / 3) k) ks) e).1 h in
+    let b : get_or ks i 0 < length c / 3 = below (length c / 3) ks i (or_parts (not (ascends_from 0 ks)) (any (λ k. leb (length c / 3) k) ks) e).1 h in
     omega arith

@@ -13,11 +13,6 @@ use Rattle.laws.specs.Lists.{any, up_from}
 use Rattle.laws.proofs.ListLaws.{length-up_from, get_or-up_from}
 use Rattle.welding.proofs.Through.{map_more}
 
--- some number of a range passes
-pub any_is : (p : ℕ → Bool) (a n : ℕ) → list_any p (range_with_len a n) ≡ any p (up_from a n)
-any_is p a zero = refl
-any_is p a (suc n) = ap (λ (b : Bool). p a || b) (ap (λ (k : ℕ). list_any p (range_with_len k n)) (add-one a) ∙ any_is p (suc a) n)
-
 -- one mark more
 pub mark_more : (f : ℕ → ℕ) (w₀ w : List ℕ) (n c v : ℕ) → w ≡ sets w₀ 0 (take c (map f (up_from 0 n))) → c < n → v ≡ f c
     → set w c v ≡ sets w₀ 0 (take (c + 1) (map f (up_from 0 n)))

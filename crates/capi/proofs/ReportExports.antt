@@ -9,7 +9,7 @@ use lib.ListN.{length}
 use Rattle.laws.specs.Limits.{program_records}
 use Rattle.laws.specs.Refusals.{filled}
 use Rattle.laws.proofs.Stores.{sets_front}
-use Rattle.laws.proofs.Tests.{split}
+use Rattle.std.proofs.lemmas.Bool.{cases_lt}
 use Rattle.report.specs.Text.{report_text}
 use Rattle.report.specs.Program.{output}
 use Rattle.report_text.specs.Stored.{Stored, fields_kept}
@@ -25,7 +25,7 @@ module _ (findings : List ℕ) (total kept : ℕ) (out : List ℕ) (size : ℕ) 
   -- too few records, or too little room
   short : (length findings < 64 * kept) ⊎ (length out < text_room kept) → report_refusal findings kept out ≡ 4
   short (inl h) = rw (lt-ltb (length findings) (64 * kept) h)
-  short (inr h) = go (split (length findings) (64 * kept))
+  short (inr h) = go (cases_lt (length findings) (64 * kept))
     where
       go : (length findings < 64 * kept) ⊎ (64 * kept ≤ length findings) → report_refusal findings kept out ≡ 4
       go (inl a) = rw (lt-ltb (length findings) (64 * kept) a)

@@ -10,7 +10,7 @@ use lib.Dec.{eqb}
 use lib.ListN.{length, take, drop}
 use Rattle.std.specs.Prelude.{Result, Ok, Err}
 use Rattle.laws.specs.Refusals.{refusal, answer}
-use Rattle.laws.proofs.Tests.{tested, or_none}
+use Rattle.std.proofs.lemmas.Bool.{cases_Bool, or_parts}
 use Rattle.laws.proofs.Tables.{refusal_first, clear_append, refusal_clear}
 use Rattle.refusals.specs.Told.{told_by}
 use Rattle.refusals.specs.declared.Refusal.{Refusal}
@@ -40,7 +40,7 @@ behind_accepted m rest z = clear_append (model_table m) rest (accepted_clear m z
 
 -- where nothing is refused the model is not
 behind_none : (m : Model) (rest : List (ℕ × Bool)) → refusal (model_table m ++ rest) ≡ 0 → model_refusal m ≡ 0
-behind_none m rest e = go (tested (eqb (model_refusal m) 0))
+behind_none m rest e = go (cases_Bool (eqb (model_refusal m) 0))
   where
     go : (eqb (model_refusal m) 0 ≡ true) ⊎ (eqb (model_refusal m) 0 ≡ false) → model_refusal m ≡ 0
     go (inl a) = eqb-true (model_refusal m) 0 a
@@ -122,9 +122,9 @@ unfolding lookup_refusal
 looked m raw welded f e =
     let z = behind_none m (rows m raw welded f) e in
     let r = refusal_clear (rows m raw welded f) (λ y. omega arith, (λ y. omega arith, tt)) (sym (behind_accepted m (rows m raw welded f) z) ∙ e) in
-    let p = or_none (lists_off m raw welded) (face_off m f || false) r in
-    let q = or_none (not (eqb (length raw) (length (ring_words (faces_in m))))) (not (eqb (length welded) (length (ring_words (faces_in m))))) p.0 in
-    let s = or_none (face_off m f) false p.1 in
+    let p = or_parts (lists_off m raw welded) (face_off m f || false) r in
+    let q = or_parts (not (eqb (length raw) (length (ring_words (faces_in m))))) (not (eqb (length welded) (length (ring_words (faces_in m))))) p.0 in
+    let s = or_parts (face_off m f) false p.1 in
     record {
       model = z;
       raw_is_lem = eqb-true (length raw) (length (ring_words (faces_in m))) (not-false (eqb (length raw) (length (ring_words (faces_in m)))) q.0) ∙ words_are m;

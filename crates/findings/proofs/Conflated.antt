@@ -10,7 +10,8 @@ use lib.Dec.{leb}
 use lib.ListN.{length, get_or, take}
 use lib.Seq.{get_or-take, length-take-le}
 use Rattle.laws.specs.Lists.{only_if, any, keep, sort}
-use Rattle.laws.proofs.Tests.{tested, clash, split}
+use Rattle.laws.proofs.Tests.{clash}
+use Rattle.std.proofs.lemmas.Bool.{cases_Bool, cases_lt}
 use Rattle.laws.proofs.ListLaws.{eql_self}
 use Rattle.mesh.specs.Model.{Raw, contains, TOPOLOGY}
 use Rattle.mesh.specs.Rings.{Face, faces, numbered, key_of, same_key}
@@ -66,7 +67,7 @@ first_key fs f g h k e n =
 same_key_lem : (fs : List Face) (f g : ℕ) → f < length fs → g < length fs → key_of (face_at fs f) ≡ key_of (face_at fs g)
     → any (same_key (face_at fs f)) (take f fs) ≡ false → any (same_key (face_at fs g)) (take g fs) ≡ false → f ≡ g
 same_key_lem fs f g h k e m n =
-    ⊎_elim (λ (l : f < g). absurd (first_key fs f g l k e n)) (λ (l : g ≤ f). ⊎_elim (λ (o : g < f). absurd (first_key fs g f o h (sym e) m)) (λ (o : f ≤ g). omega arith) (split g f)) (split f g)
+    ⊎_elim (λ (l : f < g). absurd (first_key fs f g l k e n)) (λ (l : g ≤ f). ⊎_elim (λ (o : g < f). absurd (first_key fs g f o h (sym e) m)) (λ (o : f ≤ g). omega arith) (cases_lt g f)) (cases_lt f g)
 
 -- ---- a partly shared pair by its cells
 
@@ -88,7 +89,7 @@ module _ (R : Rules) (flags : ℕ) (cs : List Raw) where
   at_most x m k =
       let h = only R flags cs x m k in
       ⊎_elim (λ t. rw (exact R flags cs (fields_of x).first (fields_of x).second t (λ (e : (fields_of x).first ≡ (fields_of x).second). omega (arith, h.lower)) (omega (arith, h.lower, h.within)) h.within) (low (shares R (get_or cs (fields_of x).first none) (get_or cs (fields_of x).second none))))
-      (λ t. absurd (unasked R flags cs x t m k)) (tested (contains flags TOPOLOGY))
+      (λ t. absurd (unasked R flags cs x t m k)) (cases_Bool (contains flags TOPOLOGY))
     where
       low : (b : Bool) → cond {A = ℕ} b 1 0 ≤ 1
       low true = omega arith

@@ -10,7 +10,8 @@ use borrow.Author.Tests.{ne_eqb}
 use lib.Dec.{eqb}
 use lib.ListN.{length, get_or, length-append}
 use Rattle.laws.specs.Lists.{only_if, first, each, walk, keep}
-use Rattle.laws.proofs.Tests.{eqb_self, split}
+use Rattle.laws.proofs.Tests.{eqb_self}
+use Rattle.std.proofs.lemmas.Bool.{cases_lt}
 use Rattle.laws.proofs.ListLaws.{each_append}
 use Rattle.mesh.specs.Model.{Raw, contains, TOPOLOGY}
 use Rattle.mesh.specs.Rings.{Cell, Face, faces_of, faces, number_from, numbered}
@@ -215,4 +216,4 @@ pub exact : (R : Rules) (flags : ℕ) (cs : List Raw) (i j : ℕ) → contains f
 unfolding count
 exact R flags cs i j t d h k =
     ⊎_elim (λ e. exact_below R i j flags cs t e k)
-    (λ e. rw (names_pair_comm i j, shares_comm R (get_or cs i none) (get_or cs j none)) (exact_below R j i flags cs t (omega arith) h)) (split i j)
+    (λ e. rw (names_pair_comm i j, shares_comm R (get_or cs i none) (get_or cs j none)) (exact_below R j i flags cs t (omega arith) h)) (cases_lt i j)

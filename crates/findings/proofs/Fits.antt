@@ -32,7 +32,7 @@ add-length x (y ∷ l) = go (leb x y) (leb y x) (add-length x l)
     go false c h = omega arith
 
 -- a node set has at most as many as the ring
-set-length : (r : List ℕ) → length (node_set r) ≤ length r
+pub set-length : (r : List ℕ) → length (node_set r) ≤ length r
 set-length [] = omega arith
 set-length (x ∷ r) = omega (arith, add-length x (node_set r), set-length r)
 

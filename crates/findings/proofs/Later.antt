@@ -8,7 +8,8 @@ use lib.Dec.{leb, eqb}
 use lib.ListN.{length, get_or, take, drop}
 use lib.Seq.{take-suc, drop-cons, take-length, drop-length}
 use Rattle.laws.specs.Lists.{only_if, any, each, walk, keep, sort, eql}
-use Rattle.laws.proofs.Tests.{tested, eqb_self}
+use Rattle.laws.proofs.Tests.{eqb_self}
+use Rattle.std.proofs.lemmas.Bool.{cases_Bool}
 use Rattle.laws.proofs.ListLaws.{each_append, walk_append, any_append, any-map, keep_append, eql_self}
 use Rattle.mesh.specs.Rings.{Cell, Face, faces_from, faces_of, faces, same_key}
 use Rattle.mesh.proofs.ModelTable.{rings_from}
@@ -134,7 +135,7 @@ module _ (R : Rules) (c : Cell) where
   -- c's faces after f do not matter
   over_after : (a : List Face) (f : Face) (b d : List Face) → keep t (over_at a f (b ++ (faces_of R.rings c ++ d))) ≡ keep t (over_at a f (b ++ d))
   unfolding over_at
-  over_after a f b d = go (tested (hit f))
+  over_after a f b d = go (cases_Bool (hit f))
     where
       go : (hit f ≡ true) ⊎ (hit f ≡ false) → keep t (over_at a f (b ++ (faces_of R.rings c ++ d))) ≡ keep t (over_at a f (b ++ d))
       go (inl e) = over_hit a f (b ++ (faces_of R.rings c ++ d)) e ∙ sym (over_hit a f (b ++ d) e)
@@ -144,7 +145,7 @@ module _ (R : Rules) (c : Cell) where
   -- nor those before it
   over_before : (a b : List Face) (f : Face) (d : List Face) → keep t (over_at (a ++ (faces_of R.rings c ++ b)) f d) ≡ keep t (over_at (a ++ b) f d)
   unfolding over_at
-  over_before a b f d = go (tested (hit f))
+  over_before a b f d = go (cases_Bool (hit f))
     where
       go : (hit f ≡ true) ⊎ (hit f ≡ false) → keep t (over_at (a ++ (faces_of R.rings c ++ b)) f d) ≡ keep t (over_at (a ++ b) f d)
       go (inl e) = over_hit (a ++ (faces_of R.rings c ++ b)) f d e ∙ sym (over_hit (a ++ b) f d e)

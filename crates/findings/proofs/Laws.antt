@@ -7,7 +7,7 @@ use mathlib.Core.List.{List, [], ◌∷◌, ◌++◌, map, append_assoc, Memᴰ,
 use native.Mathlib.Numerals.{add-one}
 use lib.ListN.{length, get_or, length-append}
 use Rattle.laws.specs.Lists.{only_if, any, first, last, each, walk, keep}
-use Rattle.laws.proofs.Tests.{tested}
+use Rattle.std.proofs.lemmas.Bool.{cases_Bool}
 use Rattle.laws.proofs.Permutations.{perm_ind}
 
 -- ---- lists that are not empty
@@ -40,7 +40,7 @@ module _ {ℓ} {A : Type ℓ} where
   -- nothing is kept where no element passes
   pub keep_nothing : (p : A → Bool) (l : List A) → any p l ≡ false → keep p l ≡ []
   keep_nothing p [] e = refl
-  keep_nothing p (x ∷ l) e = go (tested (p x)) (keep_nothing p l)
+  keep_nothing p (x ∷ l) e = go (cases_Bool (p x)) (keep_nothing p l)
     where
       go : (p x ≡ true) ⊎ (p x ≡ false) → (any p l ≡ false → keep p l ≡ []) → keep p (x ∷ l) ≡ []
       go (inl a) ih = absurd (false≢true (sym e ∙ rw a))
@@ -50,7 +50,7 @@ module _ {ℓ} {A : Type ℓ} where
   pub any_some : (p : A → Bool) (l : List A) → any p l ≡ true → (x : A) × Memᴰ x l × (p x ≡ true)
   any_some p [] e = absurd (false≢true e)
   any_some p (y ∷ l) e =
-      ⊎_elim (λ f. (y, Memᴰ.head refl, f)) (λ f. let r = any_some p l (rw f at e) in (r.0, Memᴰ.tail r.1, r.2)) (tested (p y))
+      ⊎_elim (λ f. (y, Memᴰ.head refl, f)) (λ f. let r = any_some p l (rw f at e) in (r.0, Memᴰ.tail r.1, r.2)) (cases_Bool (p y))
 
   -- some element passes where a member does
   pub some_any : (p : A → Bool) {x : A} {l : List A} → Memᴰ x l → p x ≡ true → any p l ≡ true

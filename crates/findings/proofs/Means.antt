@@ -8,7 +8,7 @@ use borrow.Author.Tests.{leb-true, le-leb, not-true}
 use lib.Dec.{leb}
 use lib.ListN.{length}
 use Rattle.laws.specs.Lists.{any, eql}
-use Rattle.laws.proofs.Tests.{tested, and_parts}
+use Rattle.std.proofs.lemmas.Bool.{and_parts, cases_Bool}
 use Rattle.laws.proofs.ListLaws.{eql_true, eql_self}
 use Rattle.mesh.specs.Model.{Raw}
 use Rattle.mesh.specs.Rings.{node_set}
@@ -30,7 +30,7 @@ meets_there R r s e =
 meets_back : (R : Rules) (r s : List ℕ) → node_set r ≢ node_set s → 3 ≤ length (common r s) → R.spans (common r s) ≡ true → meets R.spans r s ≡ true
 unfolding meets sharing
 meets_back R r s unlike three area =
-    let u : eql (node_set r) (node_set s) ≡ false = ⊎_elim (λ e. absurd (unlike (eql_true (node_set r) (node_set s) e))) (λ e. e) (tested (eql (node_set r) (node_set s))) in
+    let u : eql (node_set r) (node_set s) ≡ false = ⊎_elim (λ e. absurd (unlike (eql_true (node_set r) (node_set s) e))) (λ e. e) (cases_Bool (eql (node_set r) (node_set s))) in
     let t : leb 3 (length (common r s)) ≡ true = le-leb 3 (length (common r s)) three in
     rw (u, t) area
 

@@ -17,7 +17,7 @@ use Rattle.mesh.specs.Acceptance.{node_off, faces_in}
 use Rattle.findings.specs.Rules.{pair_le, pair_of, repeat_at, repeats_of}
 use Rattle.findings.proofs.Laws.{Every, every_imp, every_parts, every_keep, every_last, every_map_in, every_map_parts, every_each, every_walk_in}
 use Rattle.mesh.proofs.Accepts.{cell_wrong, Accepts}
-use Rattle.laws.proofs.Tests.{or_none}
+use Rattle.std.proofs.lemmas.Bool.{or_parts}
 use Rattle.mesh.proofs.CellWords.{cells_count, cells_words, named_low, right_words}
 use Rattle.mesh.proofs.ModelTable.{rings_numbered, face_count_lem}
 
@@ -177,5 +177,5 @@ pub cells_nodes : (n : ℕ) (cs : List Raw) → any (cell_wrong n) cs ≡ false 
 unfolding Every
 cells_nodes n [] e = tt
 cells_nodes n (c ∷ cs) e =
-    let q = or_none (cell_wrong n c) (any (cell_wrong n) cs) e in
+    let q = or_parts (cell_wrong n c) (any (cell_wrong n) cs) e in
     (right_words n c q.0, cells_nodes n cs q.1)

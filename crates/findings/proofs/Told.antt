@@ -8,7 +8,7 @@ use native.Mathlib.Omega.{arith}
 use lib.Dec.{leb}
 use lib.ListN.{length, get_or, take, length-map}
 use Rattle.laws.specs.Lists.{only_if, any, first, each, walk, keep}
-use Rattle.laws.proofs.Tests.{tested}
+use Rattle.std.proofs.lemmas.Bool.{cases_Bool}
 use Rattle.laws.proofs.ListLaws.{keep_append, eql_self}
 use Rattle.mesh.specs.Model.{Raw}
 use Rattle.mesh.specs.Rings.{Cell, Face, faces_from, faces_of, faces, numbered, same_key, key_of}
@@ -59,7 +59,7 @@ module _ (R : Rules) (cs : List Raw) where
   -- a face and all that have its key
   told_over : (a : List Face) (f : Face) (b : List Face) → a ++ (f ∷ b) ≡ whole → Every (Told whole) (over_at a f b)
   unfolding over_at over_of Every Told owners_of
-  told_over a f b e = go (tested (any (same_key f) a)) (leb 2 (length (keep (same_key f) b)))
+  told_over a f b e = go (cases_Bool (any (same_key f) a)) (leb 2 (length (keep (same_key f) b)))
     where
       below : f.num < length whole
       below = (at_place R.rings cs a f b e).0

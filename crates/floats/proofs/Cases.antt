@@ -15,7 +15,7 @@ use lib.Ieee.Exact.{HasValue, odd_sign}
 use lib.Ieee.Compare.{differs_from_itself, nan_differs}
 use borrow.Author.Tests.{le-leb, lt-leb}
 use Rattle.floats.specs.Root.{root_of_units, sqrt}
-use Rattle.laws.proofs.Tests.{split}
+use Rattle.std.proofs.lemmas.Bool.{cases_lt}
 use Rattle.floats.proofs.Scaled.{pow_lt_back, shifted_low, shifted_high}
 use Rattle.floats.proofs.Fields.{sqrt-positive, sqrt_negative, fields_of, field_low, field_mid, field_top}
 
@@ -158,7 +158,7 @@ module _ (x : Float) (f : fits binary64 x ≡ true) where
   negative_other z s n = ⊎_elim
       (λ (h : exponent_of x < 2047). negative_odd x (2 ^ 52 + significand_of x) (exponent_of x - 1) (lead (significand_of x)) (mid_is true (minus s) z (less (exponent_of x) h)))
       (λ (h : 2047 ≤ exponent_of x). negative_inf x (top_is true (minus s) (last (exponent_of x) h (exponent_lt x)) n))
-      (split (exponent_of x) 2047)
+      (cases_lt (exponent_of x) 2047)
 
   -- +∞
   pub at_top : exponent_of x ≡ 2047 → (sign_of x ≡ 1 → ⊥) → T (not (is_nan x)) → x ≡ sqrt x

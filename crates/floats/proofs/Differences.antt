@@ -14,7 +14,8 @@ use lib.Ieee.Exact.{HasValue, round_exact}
 use lib.Ieee.Order.{round_mono}
 use lib.Ieee.Scale.{round_same}
 use borrow.Author.Tests.{ltb-true, ltb-false}
-use Rattle.laws.proofs.Tests.{tested, clash}
+use Rattle.laws.proofs.Tests.{clash}
+use Rattle.std.proofs.lemmas.Bool.{cases_Bool}
 use Rattle.floats.specs.Floats.{is_finite}
 use Rattle.floats.proofs.Monotone.{grown, not_grown, no_lower, top}
 use Rattle.floats.proofs.Rounding.{round_grown}
@@ -63,7 +64,7 @@ not_above (inf false) (inf true) g h k = absurd h
 not_above (inf false) (inf false) g h k = refl
 not_above (inf false) (fin t n d) g h k = absurd k
 not_above (fin true m e) y g h k = absurd g
-not_above (fin false m e) y g h k = ⊎_elim (λ l. absurd (no_lower (fin false m e) y tt h k l)) (λ l. l) (tested (lt y (fin false m e)))
+not_above (fin false m e) y g h k = ⊎_elim (λ l. absurd (no_lower (fin false m e) y tt h k l)) (λ l. l) (cases_Bool (lt y (fin false m e)))
 
 -- of two fractions the smaller one, rounded, is not above the larger
 round_order : (f : Format) (a c b d : ℕ) → 0 < c → 0 < d → a * d ≤ b * c → lt (round f false b d) (round f false a c) ≡ false
@@ -130,7 +131,7 @@ not_below (fin s m e) (fin t n d) nan i g h = absurd i
 not_below (fin s m e) (fin t n d) (inf true) i g h = clash refl h
 not_below (fin s m e) (fin t n d) (inf false) i g h = refl
 not_below (fin s m e) (fin t n d) (fin u k f) i g h =
-    ⊎_elim (λ j. j) (λ j. clash g (lt_neg (fin s m e) (fin u k f) (fin t n d) refl refl refl j h)) (tested (lt (fin s m e) (fin u k f)))
+    ⊎_elim (λ j. j) (λ j. clash g (lt_neg (fin s m e) (fin u k f) (fin t n d) refl refl refl j h)) (cases_Bool (lt (fin s m e) (fin u k f)))
 
 -- ---- signed fractions, rounded
 
@@ -202,12 +203,12 @@ sum_difference : (f : Format) (s t : Bool) (a b c : ℕ) → Difference f (sum f
 unfolding sum
 sum_difference f false true a b c = record { sign = false; size = a + b; is = refl; exact = omega arith }
 sum_difference f true false a b c = record { sign = true; size = a + b; is = refl; exact = omega arith }
-sum_difference f false false a b c = go (tested (ltb a b))
+sum_difference f false false a b c = go (cases_Bool (ltb a b))
   where
     go : (ltb a b ≡ true) ⊎ (ltb a b ≡ false) → Difference f (sum f false a true b c) false false a b c
     go (inl e) = record { sign = true; size = b - a; is = rw e; exact = omega (arith, ltb-true a b e) }
     go (inr e) = record { sign = false; size = a - b; is = rw e; exact = omega (arith, ltb-false a b e) }
-sum_difference f true true a b c = go (tested (ltb a b)) (tested (ltb b a))
+sum_difference f true true a b c = go (cases_Bool (ltb a b)) (cases_Bool (ltb b a))
   where
     go : (ltb a b ≡ true) ⊎ (ltb a b ≡ false) → (ltb b a ≡ true) ⊎ (ltb b a ≡ false) → Difference f (sum f true a false b c) true true a b c
     go (inl e) g = record { sign = false; size = b - a; is = rw e; exact = omega (arith, ltb-true a b e) }
@@ -311,4 +312,4 @@ sub_under t x y c p q r i e =
     let o : lt v u ≡ false =
     round_signed binary64 h.sign g.sign h.size g.size w.den w.above
     (to_below h.sign g.sign h.size g.size (shift _ _ _ _ _ _ _ _ _ _ g.exact h.exact (part_order w.above w.second w.first i))) in
-    rw g.is (⊎_elim (λ k. clash (not_below t u v (round_number binary64 h.sign h.size w.den) k o) (rw h.is at e)) (λ k. k) (tested (lt t u)))
+    rw g.is (⊎_elim (λ k. clash (not_below t u v (round_number binary64 h.sign h.size w.den) k o) (rw h.is at e)) (λ k. k) (cases_Bool (lt t u)))

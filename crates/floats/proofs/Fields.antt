@@ -12,7 +12,7 @@ use lib.Ieee.Fits.{down_pos}
 use lib.Ieee.Bits.{of_bits-to_bits}
 use lib.Ieee.Exact.{HasValue, odd_sign}
 use borrow.Author.Tests.{ne_eqb}
-use Rattle.laws.proofs.Tests.{split}
+use Rattle.std.proofs.lemmas.Bool.{cases_lt}
 use Rattle.floats.specs.Root.{units_in, root_of_units, sqrt, counted}
 
 -- ---- the units of a value
@@ -78,7 +78,7 @@ grid_fields s zero t X H c = (t, 0, rw field_low (odd_sign 53 s t 0 1074), omega
 grid_fields s (suc k) t X H c = ⊎_elim
     (λ (h : suc k < 2047). (2 ^ 52 + t, k, rw (field_mid s k t h) (odd_sign 53 s (2 ^ 52 + t) k 1074), omega arith, omega arith))
     (λ (g : 2047 ≤ suc k). absurd (uncounted (eqb t 0) s (subst (λ (v : Float). T (counted v)) (ap (λ (x : ℕ). of_fields binary64 s x t) (last g) ∙ field_top s t) c)))
-    (split (suc k) 2047)
+    (cases_lt (suc k) 2047)
   where
     last : 2047 ≤ suc k → suc k ≡ 2047
     last g = omega arith

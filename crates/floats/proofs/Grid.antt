@@ -6,7 +6,7 @@ use Prim.Native.Nat.{ℕ, suc, ◌+◌, ◌*◌, ◌-◌, ◌^◌, ◌≤◌, �
 use native.Mathlib.Nat.{le_trans, le_of_eq, mul_assoc, mul-le-mul_right, mul-lt-mul_of_pos_right, lt_of_mul-lt-mul_right, pow-succ'}
 use native.Mathlib.Omega.{arith}
 use lib.Pow.{pow-add, pow_pos, pow_mono}
-use Rattle.laws.proofs.Tests.{split}
+use Rattle.std.proofs.lemmas.Bool.{cases_lt}
 
 -- p * 2 ^ i is a multiple of 2 ^ k where k ≤ i
 multiple : (p i k : ℕ) → k ≤ i → p * 2 ^ i ≡ p * 2 ^ (i - k) * 2 ^ k
@@ -31,7 +31,7 @@ pub next_up : (q k p i : ℕ) → 2 ^ 52 ≤ q → p < 2 ^ 53 → q * 2 ^ k < p 
 next_up q k p i Q P h = ⊎_elim
     (λ (l : i < k). absurd (no (below p i k P l)))
     (λ (g : k ≤ i). subst (λ (z : ℕ). q * 2 ^ k + 2 ^ k ≤ z) (sym (multiple p i k g)) (next q (p * 2 ^ (i - k)) (2 ^ k) (subst (λ (z : ℕ). q * 2 ^ k < z) (multiple p i k g) h)))
-    (split i k)
+    (cases_lt i k)
   where
     no : p * 2 ^ i < 2 ^ 52 * 2 ^ k → ⊥
     no b = let a : 2 ^ 52 * 2 ^ k ≤ q * 2 ^ k = mul-le-mul_right (2 ^ k) Q in omega arith
@@ -40,7 +40,7 @@ pub next_down : (q k p i : ℕ) → 2 ^ 52 < q → p < 2 ^ 53 → p * 2 ^ i < q 
 next_down q k p i Q P h = ⊎_elim
     (λ (l : i < k). far (below p i k P l))
     (λ (g : k ≤ i). subst (λ (z : ℕ). z + 2 ^ k ≤ q * 2 ^ k) (sym (multiple p i k g)) (next (p * 2 ^ (i - k)) q (2 ^ k) (subst (λ (z : ℕ). z < q * 2 ^ k) (multiple p i k g) h)))
-    (split i k)
+    (cases_lt i k)
   where
     far : p * 2 ^ i < 2 ^ 52 * 2 ^ k → p * 2 ^ i + 2 ^ k ≤ q * 2 ^ k
     far b = let a : suc (2 ^ 52) * 2 ^ k ≤ q * 2 ^ k = mul-le-mul_right (2 ^ k) Q in omega arith

@@ -9,7 +9,7 @@ use native.Mathlib.Numerals.{add-one}
 use native.Mathlib.Omega.{arith}
 use lib.Pow.{pow_pos}
 use Rattle.floats.proofs.Whole.{IsRoot, square_le, square_lt}
-use Rattle.laws.proofs.Tests.{split}
+use Rattle.std.proofs.lemmas.Bool.{cases_lt}
 use Rattle.floats.proofs.Grid.{next_up, next_down}
 
 -- (A + A)² is 4 A²
@@ -23,7 +23,7 @@ outside : (s B R : ℕ) → B + B ≤ s → R < B * B → 4 * R < s * s
 outside s B R h k = let a : (B + B) * (B + B) ≤ s * s = square_le (B + B) s h in omega arith
 
 even_or_odd : (w : ℕ) → (w ≡ (w + 1) / 2 + (w + 1) / 2) ⊎ (suc w ≡ (w + 1) / 2 + (w + 1) / 2)
-even_or_odd w = ⊎_elim (λ (h : w % 2 < 1). inl (ev h)) (λ (h : 1 ≤ w % 2). inr (od h)) (split (w % 2) 1)
+even_or_odd w = ⊎_elim (λ (h : w % 2 < 1). inl (ev h)) (λ (h : 1 ≤ w % 2). inr (od h)) (cases_lt (w % 2) 1)
   where
     ev : w % 2 < 1 → w ≡ (w + 1) / 2 + (w + 1) / 2
     ev h = omega arith

@@ -13,7 +13,8 @@ use lib.Ieee.Fits.{down_pos, cond-fits}
 use lib.Ieee.Order.{transfer, le_of_values}
 use lib.Ieee.Positive.{positive, value_pos}
 use borrow.Author.Tests.{ltb-true, lt-ltb, le-ltb, eqb-true}
-use Rattle.laws.proofs.Tests.{tested, both_ways, split, clash, or_cases, and_parts}
+use Rattle.laws.proofs.Tests.{both_ways, clash}
+use Rattle.std.proofs.lemmas.Bool.{and_parts, cases_Bool, cases_lt, or_cases}
 use Rattle.floats.specs.Floats.{larger_of}
 use Rattle.floats.specs.Root.{units_in, sqrt, counted, radicand}
 use Rattle.floats.proofs.Fields.{units_exact}
@@ -42,8 +43,8 @@ units_lt (fin false m e) (fin false n k) f g c d =
 
     order : (a b p q r u v : ℕ) → 0 < p → 0 < q → 0 < r → a * r ≡ u * p → b * r ≡ v * q → ltb (a * q) (b * p) ≡ ltb u v
     order a b p q r u v P Q R h i = both_ways (ltb (a * q) (b * p)) (ltb u v)
-        (λ t. ⊎_elim (λ (l : u < v). lt-ltb u v l) (λ (l : v ≤ u). absurd (not-le_of_lt (ltb-true (a * q) (b * p) t) (transfer b a q p v u r r R R i h (mul-le-mul_right r l)))) (split u v))
-        (λ t. ⊎_elim (λ (l : a * q < b * p). lt-ltb (a * q) (b * p) l) (λ (l : b * p ≤ a * q). absurd (not-le_of_lt (ltb-true u v t) (le_of_mul-le-mul_right (transfer v u r r b a q p Q P (sym i) (sym h) l) R))) (split (a * q) (b * p)))
+        (λ t. ⊎_elim (λ (l : u < v). lt-ltb u v l) (λ (l : v ≤ u). absurd (not-le_of_lt (ltb-true (a * q) (b * p) t) (transfer b a q p v u r r R R i h (mul-le-mul_right r l)))) (cases_lt u v))
+        (λ t. ⊎_elim (λ (l : a * q < b * p). lt-ltb (a * q) (b * p) l) (λ (l : b * p ≤ a * q). absurd (not-le_of_lt (ltb-true u v t) (le_of_mul-le-mul_right (transfer v u r r b a q p Q P (sym i) (sym h) l) R))) (cases_lt (a * q) (b * p)))
 
 -- ---- the root is monotone
 
@@ -78,7 +79,7 @@ root_le x y f g c d l = go (zero_or x c) (zero_or y d)
       where
         no : (u v : ℕ) → 0 < u → u ≤ v → v ≡ 0 → ⊥
         no u v a b e = omega arith
-    go (inr p) (inr q) = ⊎_elim (λ (h : units_in (sqrt y) < units_in (sqrt x)). absurd (less h)) (λ (h : units_in (sqrt x) ≤ units_in (sqrt y)). h) (split (units_in (sqrt y)) (units_in (sqrt x)))
+    go (inr p) (inr q) = ⊎_elim (λ (h : units_in (sqrt y) < units_in (sqrt x)). absurd (less h)) (λ (h : units_in (sqrt x) ≤ units_in (sqrt y)). h) (cases_lt (units_in (sqrt y)) (units_in (sqrt x)))
       where
         less : units_in (sqrt y) < units_in (sqrt x) → ⊥
         less h =
@@ -157,7 +158,7 @@ counted_grown (fin s m e) c = c
 -- in the order of floats
 pub sqrt_monotone : (x y : Float) → T (fits binary64 x) → T (fits binary64 y) → T (counted x) → T (counted y) → T (le x y) → T (le (sqrt x) (sqrt y))
 sqrt_monotone x y f g c d h =
-    let l : units_in x ≤ units_in y = ⊎_elim (λ (k : units_in y < units_in x). absurd (no_lower x y c (counted_grown y d) h (units_lt y x g f d c ∙ lt-ltb (units_in y) (units_in x) k))) (λ (k : units_in x ≤ units_in y). k) (split (units_in y) (units_in x)) in
+    let l : units_in x ≤ units_in y = ⊎_elim (λ (k : units_in y < units_in x). absurd (no_lower x y c (counted_grown y d) h (units_lt y x g f d c ∙ lt-ltb (units_in y) (units_in x) k))) (λ (k : units_in x ≤ units_in y). k) (cases_lt (units_in y) (units_in x)) in
     le_of_values (sqrt x) (sqrt y) (units_in (sqrt x)) (2 ^ 1074) (units_in (sqrt y)) (2 ^ 1074) (pow_pos 1074) (pow_pos 1074)
     (units_exact (sqrt x) (root_fits x f c) (root_counted x f c)) (units_exact (sqrt y) (root_fits y g d) (root_counted y g d))
     (mul-le-mul_right (2 ^ 1074) (root_le x y f g c d l))
@@ -186,7 +187,7 @@ yields a b e i = sym (ap sqrt (larger_second a b e)) ∙ larger_second (sqrt a) 
 
 -- two finite values
 finite_larger : (a b : Float) → T (fits binary64 a) → T (fits binary64 b) → T (counted a) → T (counted b) → sqrt (larger_of a b) ≡ larger_of (sqrt a) (sqrt b)
-finite_larger a b f g c d = ⊎_elim rise (λ (l : units_in b ≤ units_in a). stays a b (counted_grown a c) h (units_lt a b f g c d ∙ le-ltb (units_in a) (units_in b) l) (roots ∙ le-ltb (units_in (sqrt a)) (units_in (sqrt b)) (root_le b a g f d c l))) (split (units_in a) (units_in b))
+finite_larger a b f g c d = ⊎_elim rise (λ (l : units_in b ≤ units_in a). stays a b (counted_grown a c) h (units_lt a b f g c d ∙ le-ltb (units_in a) (units_in b) l) (roots ∙ le-ltb (units_in (sqrt a)) (units_in (sqrt b)) (root_le b a g f d c l))) (cases_lt (units_in a) (units_in b))
   where
     h : T (grown (sqrt a))
     h = counted_grown (sqrt a) (root_counted a f c)
@@ -198,7 +199,7 @@ finite_larger a b f g c d = ⊎_elim rise (λ (l : units_in b ≤ units_in a). s
     rise l = ⊎_elim
         (λ (k : units_in (sqrt a) < units_in (sqrt b)). yields a b below (roots ∙ lt-ltb (units_in (sqrt a)) (units_in (sqrt b)) k))
         (λ (k : units_in (sqrt b) ≤ units_in (sqrt a)). sym (ap sqrt (larger_second a b below)) ∙ sym (same k) ∙ larger_first (sqrt a) (sqrt b) (is_number (sqrt a) h) (roots ∙ le-ltb (units_in (sqrt a)) (units_in (sqrt b)) k))
-        (split (units_in (sqrt a)) (units_in (sqrt b)))
+        (cases_lt (units_in (sqrt a)) (units_in (sqrt b)))
       where
         below : lt a b ≡ true
         below = units_lt a b f g c d ∙ lt-ltb (units_in a) (units_in b) l
@@ -231,11 +232,11 @@ pub larger_root : (a b : Float) → T (fits binary64 a) → T (fits binary64 b) 
 larger_root a b f g h =
     ⊎_elim (grown_larger a b f g h)
     (λ e. stays a b h (root_grown a f h) (not_grown a b h e) (not_grown (sqrt a) (sqrt b) (root_grown a f h) (root_low b e)))
-    (tested (grown b))
+    (cases_Bool (grown b))
 
 -- and so it goes on: the larger is not below zero either, and fits
 pub larger_grown : (a b : Float) → T (grown a) → T (grown (larger_of a b))
-larger_grown a b h = ⊎_elim (λ t. rw (← larger_second a b t) (⊎_elim (λ e. rw e tt) (λ e. clash t (not_grown a b h e)) (tested (grown b)))) (λ t. rw (← larger_first a b (is_number a h) t) h) (tested (lt a b))
+larger_grown a b h = ⊎_elim (λ t. rw (← larger_second a b t) (⊎_elim (λ e. rw e tt) (λ e. clash t (not_grown a b h e)) (cases_Bool (grown b)))) (λ t. rw (← larger_first a b (is_number a h) t) h) (cases_Bool (lt a b))
 
 -- of two that fit, the larger fits
 pub larger_fits : (a b : Float) → T (fits binary64 a) → T (fits binary64 b) → T (fits binary64 (larger_of a b))

@@ -14,7 +14,7 @@ use lib.Ieee.Exact.{odd_sign}
 use lib.Ieee.Fits.{odd-fits}
 use lib.Ieee.Positive.{positive, positive_of_value, value_pos}
 use Rattle.floats.specs.Root.{whole_root, units_in, sqrt, counted, radicand, NearestRoot, SquareRoot}
-use Rattle.laws.proofs.Tests.{split}
+use Rattle.std.proofs.lemmas.Bool.{cases_lt}
 use Rattle.floats.proofs.Whole.{IsRoot}
 use Rattle.floats.proofs.Halfway.{halfway_lower, halfway_upper}
 use Rattle.floats.proofs.Scaled.{Scaled, root_at, left, radicand_root, radicand_even, root_low, root_high, scaled_of}
@@ -109,7 +109,7 @@ pub crossed : (R u v : ℕ) → R < (v + u) * (v + u) → (u + v) * (u + v) < R 
 crossed R u v k l = omega arith
 
 not_over : (R u v : ℕ) → (u < v → R < (v + u) * (v + u)) → (u < v → (u + v) * (u + v) < R) → v ≤ u
-not_over R u v k l = ⊎_elim (λ (h : u < v). absurd (crossed R u v (k h) (l h))) (λ (h : v ≤ u). h) (split u v)
+not_over R u v k l = ⊎_elim (λ (h : u < v). absurd (crossed R u v (k h) (l h))) (λ (h : v ≤ u). h) (cases_lt u v)
 
 pub nearest_unique : (x y z : Float) → NearestRoot x y → NearestRoot x z → y ≡ z
 nearest_unique x y z a b =

@@ -11,7 +11,8 @@ use lib.Ieee.{Float, nan, inf, fin, binary64, up, down, round, mul, lt, fits}
 use lib.Ieee.Order.{round_mono}
 use lib.Ieee.Positive.{positive, mul_at}
 use borrow.Author.Tests.{ltb-true, lt-ltb}
-use Rattle.laws.proofs.Tests.{tested, clash, split}
+use Rattle.laws.proofs.Tests.{clash}
+use Rattle.std.proofs.lemmas.Bool.{cases_Bool, cases_lt}
 use Rattle.floats.specs.Floats.{zero64}
 use Rattle.floats.specs.Root.{units_in, sqrt, counted, radicand}
 use Rattle.floats.proofs.Whole.{square_lt}
@@ -24,7 +25,7 @@ use Rattle.floats.proofs.Rounding.{round_grown, round_self}
 
 -- in units: the square of x is below the radicand of v
 exact_over : (v x : Float) → T (fits binary64 v) → T (fits binary64 x) → T (counted v) → T (positive x) → lt (mul binary64 x x) v ≡ true → units_in x * units_in x < radicand v
-exact_over v x f g c p l = ⊎_elim (λ (h : units_in x * units_in x < radicand v). h) (λ (h : radicand v ≤ units_in x * units_in x). absurd (no h)) (split (units_in x * units_in x) (radicand v))
+exact_over v x f g c p l = ⊎_elim (λ (h : units_in x * units_in x < radicand v). h) (λ (h : radicand v ≤ units_in x * units_in x). absurd (no h)) (cases_lt (units_in x * units_in x) (radicand v))
   where
     no : radicand v ≤ units_in x * units_in x → ⊥
     no h =
@@ -39,7 +40,7 @@ reaches_root : (v x : Float) → T (fits binary64 v) → T (fits binary64 x) →
 reaches_root v x f g q d h = ⊎_elim
     (λ (l : units_in (sqrt v) < units_in x). absurd (far (radicand v) (units_in x) (units_in (sqrt v)) h ((sqrt_nearest v f q).upper x g d l) (square_lt (units_in x + units_in (sqrt v)) (units_in x + units_in x) (more (units_in x) (units_in (sqrt v)) l))))
     (λ (l : units_in x ≤ units_in (sqrt v)). l)
-    (split (units_in (sqrt v)) (units_in x))
+    (cases_lt (units_in (sqrt v)) (units_in x))
   where
     far : (R u w : ℕ) → u * u < R → 4 * R < (u + w) * (u + w) → (u + w) * (u + w) < (u + u) * (u + u) → ⊥
     far R u w a b c = omega arith
@@ -94,7 +95,7 @@ square_grown (fin false m e) h = round_grown binary64 (m * up e * (m * up e)) (d
 
 -- what is above such a value is one too
 grown_above : (e x : Float) → T (grown e) → lt e x ≡ true → T (grown x)
-grown_above e x g l = ⊎_elim (λ t. rw t tt) (λ t. clash l (not_grown e x g t)) (tested (grown x))
+grown_above e x g l = ⊎_elim (λ t. rw t tt) (λ t. clash l (not_grown e x g t)) (cases_Bool (grown x))
 
 -- v may be infinite
 over_v : (v e x : Float) → T (fits binary64 v) → T (fits binary64 e) → T (fits binary64 x) → T (grown v) → T (counted e) → lt e x ≡ true → lt (mul binary64 x x) v ≡ true → lt e (sqrt v) ≡ true

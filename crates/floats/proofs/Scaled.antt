@@ -10,7 +10,7 @@ use lib.Pow.{pow-add, pow_pos, pow_mono, shl_lt}
 use lib.Ieee.{size, odd}
 use lib.Ieee.Digits.{size-lt, size-le, size_reaches}
 use Rattle.floats.specs.Root.{whole_root, root_of_units}
-use Rattle.laws.proofs.Tests.{split}
+use Rattle.std.proofs.lemmas.Bool.{cases_lt}
 use Rattle.floats.proofs.Whole.{IsRoot, whole_root_lem, square_lt_back}
 
 pub record Scaled (n m h : ℕ) : Type 0 where
@@ -121,7 +121,7 @@ module _ (n p a : ℕ) (e : n * 2 ^ 1074 ≡ p * 2 ^ a) (low : 2 ^ 52 ≤ p) (hi
   scaled_odd z = record { whole = e ∙ ap (λ (x : ℕ). p * x) (odd_pow a z) ∙ sym (mul_assoc p 2 (2 ^ (a / 2) * 2 ^ (a / 2))); low = omega arith; high = omega arith; room = omega arith; roof = omega arith }
 
   pub scaled : (m : ℕ) × Scaled n m (a / 2)
-  scaled = ⊎_elim (λ (h : a % 2 < 1). (p, scaled_even (zero_of h))) (λ (h : 1 ≤ a % 2). (p * 2, scaled_odd (one_of h))) (split (a % 2) 1)
+  scaled = ⊎_elim (λ (h : a % 2 < 1). (p, scaled_even (zero_of h))) (λ (h : 1 ≤ a % 2). (p * 2, scaled_odd (one_of h))) (cases_lt (a % 2) 1)
     where
       zero_of : a % 2 < 1 → a % 2 ≡ 0
       zero_of h = omega arith

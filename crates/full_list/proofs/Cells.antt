@@ -7,7 +7,7 @@ use native.Mathlib.Omega.{arith}
 use lib.ListN.{length, get_or}
 use Rattle.laws.specs.Lists.{any}
 use Rattle.laws.specs.Merging.{AllBelow}
-use Rattle.laws.proofs.Tests.{or_none}
+use Rattle.std.proofs.lemmas.Bool.{or_parts}
 use Rattle.geometry.specs.Coordinates.{node_count}
 use Rattle.mesh.specs.Model.{Model, cells_of}
 use Rattle.mesh.specs.Rings.{nodes_in}
@@ -22,8 +22,8 @@ use Rattle.all_cells.specs.Cells.{CellsIn}
 -- what no element passes, none at a place does
 any_at : {A : Type 0} (p : A → Bool) (l : List A) (i : ℕ) (d : A) → any p l ≡ false → i < length l → p (get_or l i d) ≡ false
 any_at p [] i d e h = absurd (omega (arith, h))
-any_at p (x ∷ l) zero d e h = (or_none (p x) (any p l) e).0
-any_at p (x ∷ l) (suc i) d e h = any_at p l i d (or_none (p x) (any p l) e).1 (omega (arith, h))
+any_at p (x ∷ l) zero d e h = (or_parts (p x) (any p l) e).0
+any_at p (x ∷ l) (suc i) d e h = any_at p l i d (or_parts (p x) (any p l) e).1 (omega (arith, h))
 
 -- the cells that the tables show
 pub cells_in : (m : Model) (l : Layout) (t : List ℕ) → model_refusal m ≡ 0 → Shows m l t → CellsIn l m.kinds m.ends m.words

@@ -11,7 +11,7 @@ use lib.ListN.{length, get_or, take, length-append, get_or-append}
 use lib.Seq.{sets, length-sets, length-take-le, take-take, get_or-take, drop_at, take_at, drop-append-add}
 use Rattle.laws.specs.Merging.{region}
 use Rattle.laws.specs.Lists.{each, up_from}
-use Rattle.laws.proofs.Tests.{tested}
+use Rattle.std.proofs.lemmas.Bool.{cases_Bool}
 use Rattle.laws.proofs.ListLaws.{each_append, up_from_snoc}
 use Rattle.laws.proofs.Stores.{take_before, get_or_within, region-take, region_within}
 use Rattle.counting.specs.Counts.{times, below}
@@ -26,7 +26,7 @@ use Rattle.index.proofs.Entries.{words_long, entries_all, picked_all, up_from_sp
 pick_long : (n : ℕ) (E : List (ℕ × ℕ)) → length (pick n E) ≡ times n (nodes E)
 unfolding pick
 pick_long n [] = refl
-pick_long n (k ∷ E) = go (pick_long n E) (tested (eqb n k.0))
+pick_long n (k ∷ E) = go (pick_long n E) (cases_Bool (eqb n k.0))
   where
     go : length (pick n E) ≡ times n (nodes E) → (eqb n k.0 ≡ true) ⊎ (eqb n k.0 ≡ false) → length (pick n (k ∷ E)) ≡ times n (nodes (k ∷ E))
     go ih (inl a) = rw a (ap suc ih)

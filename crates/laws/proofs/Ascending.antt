@@ -11,12 +11,13 @@ use lib.Dec.{leb, ltb, eqb}
 use lib.ListN.{length, get_or}
 use Rattle.laws.specs.Lists.{only_if, keep, add, distinct, elem, up_from}
 use Rattle.laws.specs.Merging.{Asc, Above}
-use Rattle.laws.proofs.Tests.{tested, both_ways, or_cases, or_swap, and_parts, eqb_self, split}
+use Rattle.laws.proofs.Tests.{both_ways, or_swap, eqb_self}
+use Rattle.std.proofs.lemmas.Bool.{and_parts, cases_Bool, cases_lt, or_cases}
 use Rattle.laws.proofs.ListLaws.{keep_append, up_from_snoc}
 
 pub elem-add : (n x : ℕ) (l : List ℕ) → elem n (add leb x l) ≡ (eqb n x || elem n l)
 elem-add n x [] = refl
-elem-add n x (y ∷ ys) = go (elem-add n x ys) (tested (leb x y)) (tested (leb y x))
+elem-add n x (y ∷ ys) = go (elem-add n x ys) (cases_Bool (leb x y)) (cases_Bool (leb y x))
   where
     go : elem n (add leb x ys) ≡ (eqb n x || elem n ys) → (leb x y ≡ true) ⊎ (leb x y ≡ false) → (leb y x ≡ true) ⊎ (leb y x ≡ false)
         → elem n (add leb x (y ∷ ys)) ≡ (eqb n x || elem n (y ∷ ys))
@@ -26,7 +27,7 @@ elem-add n x (y ∷ ys) = go (elem-add n x ys) (tested (leb x y)) (tested (leb y
 
 pub asc_add : (x : ℕ) (l : List ℕ) → Asc l → Asc (add leb x l)
 asc_add x [] h = (λ n e. absurd (false≢true e), tt)
-asc_add x (y ∷ ys) h = go (asc_add x ys h.1) (tested (leb x y)) (tested (leb y x))
+asc_add x (y ∷ ys) h = go (asc_add x ys h.1) (cases_Bool (leb x y)) (cases_Bool (leb y x))
   where
     go : Asc (add leb x ys) → (leb x y ≡ true) ⊎ (leb x y ≡ false) → (leb y x ≡ true) ⊎ (leb y x ≡ false) → Asc (add leb x (y ∷ ys))
     go ih (inl a) (inl b) = simp (a, b) h
@@ -39,7 +40,7 @@ asc_distinct (x ∷ l) = asc_add x (distinct leb l) (asc_distinct l)
 
 pub elem-keep : (n : ℕ) (p : ℕ → Bool) (l : List ℕ) → elem n (keep p l) ≡ (p n && elem n l)
 elem-keep n p [] = sym (and-false (p n))
-elem-keep n p (x ∷ xs) = go (elem-keep n p xs) (tested (p x)) (tested (eqb n x))
+elem-keep n p (x ∷ xs) = go (elem-keep n p xs) (cases_Bool (p x)) (cases_Bool (eqb n x))
   where
     go : elem n (keep p xs) ≡ (p n && elem n xs) → (p x ≡ true) ⊎ (p x ≡ false) → (eqb n x ≡ true) ⊎ (eqb n x ≡ false)
         → elem n (keep p (x ∷ xs)) ≡ (p n && elem n (x ∷ xs))
@@ -50,7 +51,7 @@ elem-keep n p (x ∷ xs) = go (elem-keep n p xs) (tested (p x)) (tested (eqb n x
 
 pub asc_keep : (p : ℕ → Bool) (l : List ℕ) → Asc l → Asc (keep p l)
 asc_keep p [] h = tt
-asc_keep p (x ∷ xs) h = go (asc_keep p xs h.1) (tested (p x))
+asc_keep p (x ∷ xs) h = go (asc_keep p xs h.1) (cases_Bool (p x))
   where
     go : Asc (keep p xs) → (p x ≡ true) ⊎ (p x ≡ false) → Asc (keep p (x ∷ xs))
     go ih (inl a) = rw a (λ n e. h.0 n (and_parts (p n) (elem n xs) (sym (elem-keep n p xs) ∙ e)).1, ih)
@@ -68,7 +69,7 @@ later_in x l y e = go (eqb y x)
     go false = e
 
 pub above_out : (x : ℕ) (l : List ℕ) → Above x l → elem x l ≡ false
-above_out x l h = ⊎_elim (λ e. absurd (omega (arith, h x e))) (λ e. e) (tested (elem x l))
+above_out x l h = ⊎_elim (λ e. absurd (omega (arith, h x e))) (λ e. e) (cases_Bool (elem x l))
 
 pub asc_ext : (a b : List ℕ) → Asc a → Asc b → ((n : ℕ) → elem n a ≡ elem n b) → a ≡ b
 asc_ext [] [] h k e = refl
@@ -86,7 +87,7 @@ asc_ext (x ∷ xs) (y ∷ ys) h k e = ap₂ (λ (z : ℕ) (zs : List ℕ). z ∷
     same = ⊎_elim (λ p. p) (λ p. ⊎_elim (λ q. sym q) (λ q. absurd (omega (arith, k.0 x p, h.0 y q))) y_in) x_in
 
     tails : (n : ℕ) → elem n xs ≡ elem n ys
-    tails n = go (tested (eqb n x))
+    tails n = go (cases_Bool (eqb n x))
       where
         go : (eqb n x ≡ true) ⊎ (eqb n x ≡ false) → elem n xs ≡ elem n ys
         go (inl a) =
@@ -123,7 +124,7 @@ elem-up_from x i n = both_ways (elem x (up_from i n)) (leb i x && ltb x (i + n))
 
     back : (i n : ℕ) → i ≤ x → x < i + n → elem x (up_from i n) ≡ true
     back i zero a b = absurd (omega arith)
-    back i (suc n) a b = go (λ h. back (suc i) n h (omega arith)) (tested (eqb x i))
+    back i (suc n) a b = go (λ h. back (suc i) n h (omega arith)) (cases_Bool (eqb x i))
       where
         go : (suc i ≤ x → elem x (up_from (suc i) n) ≡ true) → (eqb x i ≡ true) ⊎ (eqb x i ≡ false) → elem x (up_from i (suc n)) ≡ true
         go ih (inl s) = rw s
@@ -156,7 +157,7 @@ first_low (x ∷ l) d h a e = ⊎_elim (λ s. omega (arith, eqb-true h x s)) (λ
 
 pub from_next : (g : ℕ) (l : List ℕ) → Asc l → elem g l ≡ true → keep (leb g) l ≡ g ∷ keep (leb (suc g)) l
 from_next g [] a e = absurd (false≢true e)
-from_next g (x ∷ l) a e = go (from_next g l a.1) (tested (eqb g x)) (split x g)
+from_next g (x ∷ l) a e = go (from_next g l a.1) (cases_Bool (eqb g x)) (cases_lt x g)
   where
     go : (elem g l ≡ true → keep (leb g) l ≡ g ∷ keep (leb (suc g)) l) → (eqb g x ≡ true) ⊎ (eqb g x ≡ false) → (x < g) ⊎ (g ≤ x) → keep (leb g) (x ∷ l) ≡ g ∷ keep (leb (suc g)) (x ∷ l)
     go ih (inl s) o =
@@ -169,7 +170,7 @@ from_next g (x ∷ l) a e = go (from_next g l a.1) (tested (eqb g x)) (split x g
 -- a list to which a number is added gets longer by at most one
 pub add_most : (x : ℕ) (l : List ℕ) → length (add leb x l) ≤ length l + 1
 add_most x [] = omega arith
-add_most x (y ∷ l) = go (tested (leb x y)) (tested (leb y x)) (add_most x l)
+add_most x (y ∷ l) = go (cases_Bool (leb x y)) (cases_Bool (leb y x)) (add_most x l)
   where
     go : (leb x y ≡ true) ⊎ (leb x y ≡ false) → (leb y x ≡ true) ⊎ (leb y x ≡ false) → length (add leb x l) ≤ length l + 1 → length (add leb x (y ∷ l)) ≤ length (y ∷ l) + 1
     go (inl a) (inl b) ih = rw (a, b) (omega arith)
@@ -179,7 +180,7 @@ add_most x (y ∷ l) = go (tested (leb x y)) (tested (leb y x)) (add_most x l)
 -- and not shorter
 pub add_least : (x : ℕ) (l : List ℕ) → length l ≤ length (add leb x l)
 add_least x [] = omega arith
-add_least x (y ∷ l) = go (tested (leb x y)) (tested (leb y x)) (add_least x l)
+add_least x (y ∷ l) = go (cases_Bool (leb x y)) (cases_Bool (leb y x)) (add_least x l)
   where
     go : (leb x y ≡ true) ⊎ (leb x y ≡ false) → (leb y x ≡ true) ⊎ (leb y x ≡ false) → length l ≤ length (add leb x l) → length (y ∷ l) ≤ length (add leb x (y ∷ l))
     go (inl a) (inl b) ih = rw (a, b) (omega arith)

@@ -9,7 +9,7 @@ use lib.Dec.{leb}
 use lib.ListN.{length, get_or}
 use Rattle.laws.specs.Lists.{only_if, keep, insert, sort, add, up_from}
 use Rattle.laws.specs.Merging.{AllBelow}
-use Rattle.laws.proofs.Tests.{tested}
+use Rattle.std.proofs.lemmas.Bool.{cases_Bool}
 
 -- each element is below it
 pub below_at : (n : ℕ) (l : List ℕ) (i : ℕ) → AllBelow n l → i < length l → get_or l i 0 < n
@@ -44,7 +44,7 @@ below-up_from (suc n) a k h = (omega arith, below-up_from n (suc a) k (omega ari
 module _ (le : ℕ → ℕ → Bool) where
   below-insert : (n x : ℕ) (l : List ℕ) → x < n → AllBelow n l → AllBelow n (insert le x l)
   below-insert n x [] h k = (h, tt)
-  below-insert n x (y ∷ l) h k = go (tested (le x y)) (below-insert n x l h k.1)
+  below-insert n x (y ∷ l) h k = go (cases_Bool (le x y)) (below-insert n x l h k.1)
     where
       go : (le x y ≡ true) ⊎ (le x y ≡ false) → AllBelow n (insert le x l) → AllBelow n (insert le x (y ∷ l))
       go (inl e) i = rw e (h, k)
@@ -66,7 +66,7 @@ below-keep n p (x ∷ l) h = below_append n (only_if (p x) (x ∷ [])) (keep p l
 -- one number more in its place, once
 pub below-add : (n x : ℕ) (l : List ℕ) → x < n → AllBelow n l → AllBelow n (add leb x l)
 below-add n x [] h b = (h, tt)
-below-add n x (y ∷ l) h b = go (tested (leb x y)) (tested (leb y x)) (below-add n x l h b.1)
+below-add n x (y ∷ l) h b = go (cases_Bool (leb x y)) (cases_Bool (leb y x)) (below-add n x l h b.1)
   where
     go : (leb x y ≡ true) ⊎ (leb x y ≡ false) → (leb y x ≡ true) ⊎ (leb y x ≡ false) → AllBelow n (add leb x l) → AllBelow n (add leb x (y ∷ l))
     go (inl a) (inl c) ih = rw (a, c) b

@@ -10,4 +10,5 @@ pub mod Tables
 pub mod Bounds
 pub mod ByteLaws
 pub mod Members
+pub mod Holding
 pub mod Lent

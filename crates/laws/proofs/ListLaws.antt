@@ -11,7 +11,8 @@ use lib.Dec.{eqb}
 use lib.ListN.{length, get_or, drop, drop_of_length-le}
 use lib.Seq.{drop-cons}
 use Rattle.laws.specs.Lists.{only_if, any, each, walk, keep, eql, up_from}
-use Rattle.laws.proofs.Tests.{tested, clash, or_four, and_parts, eqb_self, eqb_comm}
+use Rattle.laws.proofs.Tests.{clash, or_four, eqb_self, eqb_comm}
+use Rattle.std.proofs.lemmas.Bool.{and_parts, cases_Bool}
 use borrow.Author.Tests.{eqb-true}
 
 module _ {ℓ κ} {A : Type ℓ} {B : Type κ} where
@@ -113,7 +114,7 @@ module _ {ℓ} {A : Type ℓ} where
 
   pub keep_le : (p q : A → Bool) → ((x : A) → p x ≡ true → q x ≡ true) → (l : List A) → length (keep p l) ≤ length (keep q l)
   keep_le p q h [] = omega arith
-  keep_le p q h (x ∷ l) = go (keep_le p q h l) (tested (p x)) (tested (q x))
+  keep_le p q h (x ∷ l) = go (keep_le p q h l) (cases_Bool (p x)) (cases_Bool (q x))
     where
       go : length (keep p l) ≤ length (keep q l) → (p x ≡ true) ⊎ (p x ≡ false) → (q x ≡ true) ⊎ (q x ≡ false) → length (keep p (x ∷ l)) ≤ length (keep q (x ∷ l))
       go ih (inl a) (inl b) = rw (a, b) (omega arith)
@@ -123,7 +124,7 @@ module _ {ℓ} {A : Type ℓ} where
 
   pub keep-length : (p : A → Bool) (l : List A) → length (keep p l) ≤ length l
   keep-length p [] = omega arith
-  keep-length p (x ∷ l) = go (keep-length p l) (tested (p x))
+  keep-length p (x ∷ l) = go (keep-length p l) (cases_Bool (p x))
     where
       go : length (keep p l) ≤ length l → (p x ≡ true) ⊎ (p x ≡ false) → length (keep p (x ∷ l)) ≤ suc (length l)
       go ih (inl a) = rw a (omega arith)

@@ -9,7 +9,8 @@ use borrow.Author.Tests.{eqb-true, le-leb, lt-ltb}
 use lib.Dec.{leb, eqb}
 use Rattle.laws.specs.Lists.{keep, insert, sort, distinct, elem, up_from}
 use Rattle.laws.specs.Merging.{AllBelow}
-use Rattle.laws.proofs.Tests.{tested, both_ways, or_cases, or_swap, and_parts}
+use Rattle.laws.proofs.Tests.{both_ways, or_swap}
+use Rattle.std.proofs.lemmas.Bool.{and_parts, cases_Bool, or_cases}
 use Rattle.laws.proofs.Bounds.{below-add}
 use Rattle.laws.proofs.Ascending.{elem-add, elem-keep, elem-up_from, asc_ext, asc_keep, asc_up_from, asc_distinct}
 
@@ -17,7 +18,7 @@ module _ (le : ℕ → ℕ → Bool) (n : ℕ) where
   -- a member of a list with x put in its place
   elem-insert : (x : ℕ) (l : List ℕ) → elem n (insert le x l) ≡ (eqb n x || elem n l)
   elem-insert x [] = refl
-  elem-insert x (y ∷ l) = go (elem-insert x l) (tested (le x y))
+  elem-insert x (y ∷ l) = go (elem-insert x l) (cases_Bool (le x y))
     where
       go : elem n (insert le x l) ≡ (eqb n x || elem n l) → (le x y ≡ true) ⊎ (le x y ≡ false) → elem n (insert le x (y ∷ l)) ≡ (eqb n x || elem n (y ∷ l))
       go ih (inl a) = rw a

@@ -27,13 +27,9 @@ module _ {ℓ} {A : Type ℓ} where
   pub perm_append : {a b c d : List A} → Permᴰ a b → Permᴰ c d → Permᴰ (a ++ c) (b ++ d)
   perm_append {b = b} {c = c} p q = Permᴰ.trans (Permᴰ.append_right c p) (Permᴰ.append_left b q)
 
-  pub perm_comm : (a b : List A) → Permᴰ (a ++ b) (b ++ a)
-  perm_comm [] b = Permᴰ.symm (Permᴰ.append-nil b)
-  perm_comm (x ∷ a) b = Permᴰ.trans (Permᴰ.cons refl (perm_comm a b)) (Permᴰ.symm (Permᴰ.middle x b a))
-
   -- two parts before a third change places
   pub perm_left_comm : (a b c : List A) → Permᴰ (a ++ (b ++ c)) (b ++ (a ++ c))
-  perm_left_comm a b c = rw (← append_assoc a b c, ← append_assoc b a c) (Permᴰ.append_right c (perm_comm a b))
+  perm_left_comm a b c = rw (← append_assoc a b c, ← append_assoc b a c) (Permᴰ.append_right c (Permᴰ.append_comm a b))
 
 module _ {ℓ κ} {A : Type ℓ} {B : Type κ} where
   pub perm_each : (f : A → List B) {l m : List A} → Permᴰ l m → Permᴰ (each f l) (each f m)
@@ -62,10 +58,6 @@ module _ {ℓ κ} {A : Type ℓ} {B : Type κ} where
       (λ x y l. rw (s x y, append_assoc (f y x) (each (f x) l), append_assoc (f y x) (each (f y) l))
       (Permᴰ.append_left (f y x) (perm_left_comm (each (f x) l) (each (f y) l) (pairs f l))))
       (λ l m n p q. Permᴰ.trans p q)
-
-module _ {ℓ} {A : Type ℓ} where
-  pub perm_length : {l m : List A} → Permᴰ l m → length l ≡ length m
-  perm_length = perm_ind (λ l m. length l ≡ length m) refl (λ x l m d e. ap suc e) (λ x y l. refl) (λ l m n e f. e ∙ f)
 
 -- lists that are permutations of each other are sorted alike
 module _ {ℓ} {A : Type ℓ} (le : A → A → Bool) (T : Total le) where

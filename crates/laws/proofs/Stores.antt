@@ -8,8 +8,8 @@ use native.Mathlib.Omega.{arith}
 use mathlib.Core.Logic.{◌⊎◌, inl, inr}
 use lib.ListN.{length, get_or, set, take, drop, replicate, length-set, length-drop, length-append, length-replicate, take-append-drop}
 use Rattle.laws.specs.Merging.{region}
-use Rattle.laws.proofs.Tests.{split}
-use lib.Seq.{slice, sets, sets-eq, length-sets, set-set, set_comm, get_or-take, get_or-drop, get_or-set_same, drop-set-add, take-suc-set, take-add, take-take, drop-drop, take-suc, length-take-le, get_or-set_other, take-set-le, drop-set-lt, drop_at, take-append_seam, drop-append_seam, take_all, drop-length}
+use Rattle.std.proofs.lemmas.Bool.{cases_lt}
+use lib.Seq.{slice, sets, sets-eq, length-sets, set-set, set_comm, get_or-take, get_or-drop, get_or-set_same, drop-set-add, take-suc-set, take-add, take-take, drop-drop, take-suc, length-take-le, get_or-set_other, take-set-le, drop-set-lt, drop_at, take-append_seam, drop-append_seam, take_all, drop-length, take-nil}
 
 module _ {A : Type 0} where
   -- one store more
@@ -45,11 +45,7 @@ module _ {A : Type 0} where
   -- a region: `take n (drop a l)`, before the run, behind it, and the run itself
   pub take-drop : (a n : ℕ) (l : List A) → take n (drop a l) ≡ drop a (take (a + n) l)
   take-drop zero n l = ap (λ (k : ℕ). take k l) (sym (zero-add n))
-  take-drop (suc a) n [] = nil_take n ∙ sym (ap (drop (suc a)) (nil_take (suc a + n)))
-    where
-      nil_take : (n : ℕ) → ◌≡◌ {A = List A} (take n []) []
-      nil_take zero = refl
-      nil_take (suc n) = refl
+  take-drop (suc a) n [] = take-nil n ∙ sym (ap (drop (suc a)) (take-nil (suc a + n)))
   take-drop (suc a) n (x ∷ l) = take-drop a n l ∙ ap (λ (k : ℕ). drop (suc a) (take k (x ∷ l))) (sym (suc-add a n))
 
   pub region_before : (a n : ℕ) (l : List A) (o : ℕ) (xs : List A) → a + n ≤ o → take n (drop a (sets l o xs)) ≡ take n (drop a l)
@@ -219,7 +215,7 @@ module _ {A : Type 0} where
 
   -- the first k of a list, k cut down to its length
   pub take_least : (k : ℕ) (l : List A) → take (min k (length l)) l ≡ take k l
-  take_least k l = go (split k (length l))
+  take_least k l = go (cases_lt k (length l))
     where
       go : (k < length l) ⊎ (length l ≤ k) → take (min k (length l)) l ≡ take k l
       go (inl h) = let e : min k (length l) ≡ k = omega (arith, h) in ap (λ (i : ℕ). take i l) e

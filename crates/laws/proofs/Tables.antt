@@ -10,7 +10,7 @@ use lib.Dec.{eqb}
 use lib.ListN.{length, drop}
 use Rattle.laws.specs.Lists.{any}
 use Rattle.laws.specs.Refusals.{refused, done, refusal, answer, filled}
-use Rattle.laws.proofs.Tests.{tested, or_none}
+use Rattle.std.proofs.lemmas.Bool.{cases_Bool, or_parts}
 
 -- a row's reason
 abbrev pub reason : ℕ × Bool → Bool
@@ -28,17 +28,17 @@ numbered_append (row ∷ rows) b n k = (n.0, numbered_append rows b n.1 k)
 -- where no reason holds, only what follows the table matters
 pub clear_append : (t rest : List (ℕ × Bool)) → any reason t ≡ false → refusal (t ++ rest) ≡ refusal rest
 clear_append [] rest e = refl
-clear_append (row ∷ t) rest e = let p = or_none row.1 (any reason t) e in rw p.0 (clear_append t rest p.1)
+clear_append (row ∷ t) rest e = let p = or_parts row.1 (any reason t) e in rw p.0 (clear_append t rest p.1)
 
 -- and nothing is refused
 pub clear_refusal : (t : List (ℕ × Bool)) → any reason t ≡ false → refusal t ≡ 0
 clear_refusal [] e = refl
-clear_refusal (row ∷ t) e = let p = or_none row.1 (any reason t) e in rw p.0 (clear_refusal t p.1)
+clear_refusal (row ∷ t) e = let p = or_parts row.1 (any reason t) e in rw p.0 (clear_refusal t p.1)
 
 -- where nothing is refused no reason holds
 pub refusal_clear : (t : List (ℕ × Bool)) → Numbered t → refusal t ≡ 0 → any reason t ≡ false
 refusal_clear [] h e = refl
-refusal_clear (row ∷ t) h e = go (tested row.1) (refusal_clear t h.1)
+refusal_clear (row ∷ t) h e = go (cases_Bool row.1) (refusal_clear t h.1)
   where
     go : (row.1 ≡ true) ⊎ (row.1 ≡ false) → (refusal t ≡ 0 → any reason t ≡ false) → any reason (row ∷ t) ≡ false
     go (inl a) ih = absurd (h.0 (rw a at e))
@@ -47,7 +47,7 @@ refusal_clear (row ∷ t) h e = go (tested row.1) (refusal_clear t h.1)
 -- where the first of two tables refuses, its number stands
 pub refusal_first : (a b : List (ℕ × Bool)) → refusal a ≢ 0 → refusal (a ++ b) ≡ refusal a
 refusal_first [] b n = absurd (n refl)
-refusal_first (row ∷ rows) b n = go (tested row.1) (λ m. refusal_first rows b m)
+refusal_first (row ∷ rows) b n = go (cases_Bool row.1) (λ m. refusal_first rows b m)
   where
     go : (row.1 ≡ true) ⊎ (row.1 ≡ false) → (refusal rows ≢ 0 → refusal (rows ++ b) ≡ refusal rows) → refusal (row ∷ rows ++ b) ≡ refusal (row ∷ rows)
     go (inl e) h = rw e
@@ -65,7 +65,7 @@ unfilled n m xs l h p = sym (ap (λ (k : ℕ). filled k xs l) h ∙ ap (λ (b : 
 
 -- a refusal: its number is the table's, and not 0
 pub answered_refused : {A : Type 0} (n k : ℕ) (a : A) → refused n ≡ answer k a → (n ≡ k) × (eqb k 0 ≡ false)
-answered_refused n k a e = go (tested (eqb k 0))
+answered_refused n k a e = go (cases_Bool (eqb k 0))
   where
     go : (eqb k 0 ≡ true) ⊎ (eqb k 0 ≡ false) → (n ≡ k) × (eqb k 0 ≡ false)
     go (inl t) = let q : refused n ≡ done a = e ∙ rw t in let z : ◌≡◌ {A = ℕ} 0 1 = cc in absurd (omega arith)
@@ -73,7 +73,7 @@ answered_refused n k a e = go (tested (eqb k 0))
 
 -- no refusal: nothing was refused, and it is the value
 pub answered_done : {A : Type 0} (n : ℕ) (a b : A) → done a ≡ answer n b → (n ≡ 0) × (a ≡ b)
-answered_done n a b e = go (tested (eqb n 0))
+answered_done n a b e = go (cases_Bool (eqb n 0))
   where
     go : (eqb n 0 ≡ true) ⊎ (eqb n 0 ≡ false) → (n ≡ 0) × (a ≡ b)
     go (inl t) = let q : done a ≡ done b = e ∙ rw t in (eqb-true n 0 t, cc)

@@ -1,15 +1,11 @@
--- Tests, and which way they went. What a test on numbers says is in `borrow.Author.Tests`.
+-- Tests. Which way one went (`cases_Bool`), what an `or` and an `and` say (`or_parts`, `and_parts`) and which of two numbers is lower
+-- (`cases_lt`) are in the kit's lemmas.Bool; what a test on numbers says is in `borrow.Author.Tests`.
 use Prim.Native.Nat.{ℕ, ◌≤◌, ◌<◌}
 use mathlib.Core.Path.{◌≡◌, refl, sym, ◌∙◌}
 use mathlib.Core.Logic.{◌⊎◌, inl, inr, ⊎_elim}
 use mathlib.Core.Bool.{Bool, true, false, ◌&&◌, ◌||◌, false≢true, true≢false}
 use borrow.Author.Tests.{ltb-true, ltb-false, eqb-true, eq-eqb}
 use lib.Dec.{ltb, eqb}
-
--- a test, and which way it went
-pub tested : (b : Bool) → (b ≡ true) ⊎ (b ≡ false)
-tested true = inl refl
-tested false = inr refl
 
 -- no test goes both ways
 pub clash {ℓ} : {A : Type ℓ} {b : Bool} → b ≡ true → b ≡ false → A
@@ -24,14 +20,6 @@ both_ways false b f g = go b g
     go true h = h refl
     go false h = refl
 
-pub or_cases : (a b : Bool) → (a || b) ≡ true → (a ≡ true) ⊎ (b ≡ true)
-or_cases true b e = inl refl
-or_cases false b e = inr e
-
-pub or_none : (a b : Bool) → (a || b) ≡ false → (a ≡ false) × (b ≡ false)
-or_none true b e = absurd (true≢false e)
-or_none false b e = (refl, e)
-
 pub or_swap : (a b c : Bool) → (a || (b || c)) ≡ (b || (a || c))
 or_swap true true c = refl
 or_swap true false c = refl
@@ -44,16 +32,8 @@ or_four false true true d = refl
 or_four false true false d = refl
 or_four false false c d = refl
 
-pub and_parts : (a b : Bool) → (a && b) ≡ true → (a ≡ true) × (b ≡ true)
-and_parts true b e = (refl, e)
-and_parts false b e = absurd (false≢true e)
-
 pub eqb_self : (n : ℕ) → eqb n n ≡ true
 eqb_self n = eq-eqb n n refl
 
 pub eqb_comm : (m n : ℕ) → eqb m n ≡ eqb n m
 eqb_comm m n = both_ways (eqb m n) (eqb n m) (λ e. eq-eqb n m (sym (eqb-true m n e))) (λ e. eq-eqb m n (sym (eqb-true n m e)))
-
--- which of two is lower
-pub split : (m n : ℕ) → (m < n) ⊎ (n ≤ m)
-split m n = ⊎_elim (λ e. inl (ltb-true m n e)) (λ e. inr (ltb-false m n e)) (tested (ltb m n))

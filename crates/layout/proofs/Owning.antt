@@ -4,7 +4,7 @@ use mathlib.Core.Path.{◌≡◌, ap, ◌∙◌}
 use mathlib.Core.Logic.{◌⊎◌, inl, inr}
 use mathlib.Core.List.{List}
 use native.Mathlib.Omega.{arith}
-use Rattle.laws.proofs.Tests.{split}
+use Rattle.std.proofs.lemmas.Bool.{cases_lt}
 use Rattle.index.specs.Faces.{cell_of}
 use Rattle.layout.specs.declared.Layout.{Layout}
 use Rattle.layout.specs.Tables.{first_of, Faced}
@@ -24,7 +24,7 @@ module _ (l : Layout) (t : List ℕ) (f : Faced l t) where
       let z : c ≡ l.at.cell_count = omega (arith, e) in
       let q = ap (first_of l t) z ∙ f.first_last in
       absurd (omega (arith, a, b, q))
-  found (suc k) c g e a b = go (split g (first_of l t (c + 1))) (λ h. found k (c + 1) g (omega (arith, e)) h b)
+  found (suc k) c g e a b = go (cases_lt g (first_of l t (c + 1))) (λ h. found k (c + 1) g (omega (arith, e)) h b)
     where
       go : (g < first_of l t (c + 1)) ⊎ (first_of l t (c + 1) ≤ g) → (first_of l t (c + 1) ≤ g → (first_of l t (cell_of l.at t g) ≤ g) × (g < first_of l t (cell_of l.at t g + 1))) → (first_of l t (cell_of l.at t g) ≤ g) × (g < first_of l t (cell_of l.at t g + 1))
       go (inl h) rest =
@@ -38,7 +38,7 @@ module _ (l : Layout) (t : List ℕ) (f : Faced l t) where
 
   -- a later face of another cell is of a later cell
   pub later_cell : (c f' g : ℕ) → c < l.at.cell_count → first_of l t c ≤ f' → f' < g → g < l.at.faces → (cell_of l.at t g ≡ c → ⊥) → c < cell_of l.at t g
-  later_cell c f' g low a b h n = go (split (cell_of l.at t g) c)
+  later_cell c f' g low a b h n = go (cases_lt (cell_of l.at t g) c)
     where
       go : (cell_of l.at t g < c) ⊎ (c ≤ cell_of l.at t g) → c < cell_of l.at t g
       go (inl less) =

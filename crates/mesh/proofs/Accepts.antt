@@ -9,7 +9,7 @@ use lib.Dec.{leb, ltb, eqb}
 use lib.ListN.{length}
 use Rattle.laws.specs.Lists.{any}
 use Rattle.laws.specs.Limits.{cell_limit, word_limit, flag_limit}
-use Rattle.laws.proofs.Tests.{or_none, and_parts}
+use Rattle.std.proofs.lemmas.Bool.{and_parts, or_parts}
 use Rattle.laws.proofs.ListLaws.{any_append}
 use Rattle.laws.proofs.Tables.{reason, Numbered, numbered_append, clear_refusal, refusal_clear}
 use Rattle.geometry.specs.Coordinates.{node_count, count_off, tolerance_off, coordinates_off}
@@ -35,22 +35,22 @@ cell_wrong n c = (eqb c.kind 0 || ltb PHED c.kind) || (count_wrong c || any (nod
 -- a kind that is there and not below the one before
 kind_on : (before k : ℕ) → kind_off before k ≡ false → (leb before k ≡ true) × ((eqb k 0 || ltb PHED k) ≡ false)
 kind_on before k e =
-    let p = or_none (ltb k before || eqb k 0) (ltb PHED k) e in
-    let q = or_none (ltb k before) (eqb k 0) p.0 in
+    let p = or_parts (ltb k before || eqb k 0) (ltb PHED k) e in
+    let q = or_parts (ltb k before) (eqb k 0) p.0 in
     (le-leb before k (ltb-false k before q.0), rw q.1 p.1)
 
 -- and back
 kind_back : (before k : ℕ) → leb before k ≡ true → (eqb k 0 || ltb PHED k) ≡ false → kind_off before k ≡ false
-kind_back before k a e = let p = or_none (eqb k 0) (ltb PHED k) e in rw (le-ltb k before (leb-true before k a), p.0) p.1
+kind_back before k a e = let p = or_parts (eqb k 0) (ltb PHED k) e in rw (le-ltb k before (leb-true before k a), p.0) p.1
 
 -- no reason of the cells' table holds: kinds ascend and no cell is wrong
 cells_right : (n before : ℕ) (cs : List Raw) → any reason (cells_table n before cs) ≡ false → (ascending before cs ≡ true) × (any (cell_wrong n) cs ≡ false)
 unfolding cell_table cell_wrong
 cells_right n before [] e = (refl, refl)
 cells_right n before (c ∷ cs) e =
-    let p = or_none (kind_off before c.kind) (count_wrong c || (any (node_off n c.kind) c.words || any reason (cells_table n c.kind cs))) e in
-    let q = or_none (count_wrong c) (any (node_off n c.kind) c.words || any reason (cells_table n c.kind cs)) p.1 in
-    let r = or_none (any (node_off n c.kind) c.words) (any reason (cells_table n c.kind cs)) q.1 in
+    let p = or_parts (kind_off before c.kind) (count_wrong c || (any (node_off n c.kind) c.words || any reason (cells_table n c.kind cs))) e in
+    let q = or_parts (count_wrong c) (any (node_off n c.kind) c.words || any reason (cells_table n c.kind cs)) p.1 in
+    let r = or_parts (any (node_off n c.kind) c.words) (any reason (cells_table n c.kind cs)) q.1 in
     let k = kind_on before c.kind p.0 in
     let ih = cells_right n c.kind cs r.1 in
     (rw k.0 ih.0, rw (k.1, q.0, r.0) ih.1)
@@ -61,9 +61,9 @@ unfolding cell_table cell_wrong
 cells_back n before [] a e = refl
 cells_back n before (c ∷ cs) a e =
     let p = and_parts (leb before c.kind) (ascending c.kind cs) a in
-    let q = or_none (cell_wrong n c) (any (cell_wrong n) cs) e in
-    let r = or_none (eqb c.kind 0 || ltb PHED c.kind) (count_wrong c || any (node_off n c.kind) c.words) q.0 in
-    let s = or_none (count_wrong c) (any (node_off n c.kind) c.words) r.1 in
+    let q = or_parts (cell_wrong n c) (any (cell_wrong n) cs) e in
+    let r = or_parts (eqb c.kind 0 || ltb PHED c.kind) (count_wrong c || any (node_off n c.kind) c.words) q.0 in
+    let s = or_parts (count_wrong c) (any (node_off n c.kind) c.words) r.1 in
     rw (kind_back before c.kind p.0 r.0, s.0, s.1) (cells_back n c.kind cs p.1 q.1)
 
 -- ---- models
@@ -93,16 +93,16 @@ accepts m e =
     let a = length m.kinds in
     let b = length m.ends in
     let w = length m.words in
-    let p5 = or_none (shape_off m) (tolerance_off m.tolerance || (coordinates_off m.coords || (k || any reason (T ++ ((10, F) ∷ []))))) (accepted_clear m e) in
-    let p6 = or_none (tolerance_off m.tolerance) (coordinates_off m.coords || (k || any reason (T ++ ((10, F) ∷ [])))) p5.1 in
-    let p7 = or_none (coordinates_off m.coords) (k || any reason (T ++ ((10, F) ∷ []))) p6.1 in
-    let p8 = or_none k (any reason (T ++ ((10, F) ∷ []))) p7.1 in
-    let p9 = or_none (any reason T) (F || false) (sym (any_append reason T ((10, F) ∷ [])) ∙ p8.1) in
-    let p10 = or_none F false p9.1 in
-    let s4 = or_none (count_off (length m.coords) || ltb cell_limit a || ltb word_limit w || not (eqb a b)) (ends_off 0 m.ends w) p5.0 in
-    let s3 = or_none (count_off (length m.coords) || ltb cell_limit a || ltb word_limit w) (not (eqb a b)) s4.0 in
-    let s2 = or_none (count_off (length m.coords) || ltb cell_limit a) (ltb word_limit w) s3.0 in
-    let s1 = or_none (count_off (length m.coords)) (ltb cell_limit a) s2.0 in
+    let p5 = or_parts (shape_off m) (tolerance_off m.tolerance || (coordinates_off m.coords || (k || any reason (T ++ ((10, F) ∷ []))))) (accepted_clear m e) in
+    let p6 = or_parts (tolerance_off m.tolerance) (coordinates_off m.coords || (k || any reason (T ++ ((10, F) ∷ [])))) p5.1 in
+    let p7 = or_parts (coordinates_off m.coords) (k || any reason (T ++ ((10, F) ∷ []))) p6.1 in
+    let p8 = or_parts k (any reason (T ++ ((10, F) ∷ []))) p7.1 in
+    let p9 = or_parts (any reason T) (F || false) (sym (any_append reason T ((10, F) ∷ [])) ∙ p8.1) in
+    let p10 = or_parts F false p9.1 in
+    let s4 = or_parts (count_off (length m.coords) || ltb cell_limit a || ltb word_limit w || not (eqb a b)) (ends_off 0 m.ends w) p5.0 in
+    let s3 = or_parts (count_off (length m.coords) || ltb cell_limit a || ltb word_limit w) (not (eqb a b)) s4.0 in
+    let s2 = or_parts (count_off (length m.coords) || ltb cell_limit a) (ltb word_limit w) s3.0 in
+    let s1 = or_parts (count_off (length m.coords)) (ltb cell_limit a) s2.0 in
     let c = cells_right n 0 (cells_of m) p9.0 in
     record {
       coordinates = s1.0;

@@ -12,7 +12,8 @@ use lib.Dec.{leb, ltb, eqb}
 use lib.ListN.{length}
 use Rattle.laws.specs.Lists.{any}
 use Rattle.laws.specs.Refusals.{refusal}
-use Rattle.laws.proofs.Tests.{tested, clash, or_none}
+use Rattle.laws.proofs.Tests.{clash}
+use Rattle.std.proofs.lemmas.Bool.{cases_Bool, or_parts}
 use Rattle.mesh.specs.Model.{Raw, TET4, PHED}
 use Rattle.mesh.specs.Rings.{rings_of}
 use Rattle.mesh.specs.Acceptance.{kind_off, count_wrong, node_off, cell_table}
@@ -46,8 +47,8 @@ no_words ws e = record { off = rw e; tallied = tt }
 -- a kind that is none of the others
 pub the_fourth : (k : ℕ) → kind_off 0 k ≡ false → k ≢ 1 → k ≢ 2 → k ≢ 3 → k ≡ 4
 the_fourth k h a b c =
-    let p = or_none (ltb k 0 || eqb k 0) (ltb 4 k) h in
-    let q = or_none (ltb k 0) (eqb k 0) p.0 in
+    let p = or_parts (ltb k 0 || eqb k 0) (ltb 4 k) h in
+    let q = or_parts (ltb k 0) (eqb k 0) p.0 in
     omega (arith, eqb-false k 0 q.1, ltb-false 4 k p.1)
 
 -- ---- judgements
@@ -75,8 +76,8 @@ judged_well_lem n before c e f g = rw (e, f, g)
 pub any_kind : (n k : ℕ) (ws : List ℕ) → any (node_off n TET4) ws ≡ false → any (node_off n k) ws ≡ false
 any_kind n k [] e = refl
 any_kind n k (w ∷ ws) e =
-    let s = or_none (node_off n TET4 w) (any (node_off n TET4) ws) e in
-    go (tested (leb n w)) s.0 (any_kind n k ws s.1)
+    let s = or_parts (node_off n TET4 w) (any (node_off n TET4) ws) e in
+    go (cases_Bool (leb n w)) s.0 (any_kind n k ws s.1)
   where
     go : (leb n w ≡ true) ⊎ (leb n w ≡ false) → node_off n TET4 w ≡ false → any (node_off n k) ws ≡ false → any (node_off n k) (w ∷ ws) ≡ false
     go (inl a) f h = clash (rw a) f

@@ -15,7 +15,7 @@ use Rattle.laws.specs.Lists.{any, each}
 use Rattle.laws.specs.Refusals.{refusal}
 use Rattle.laws.proofs.ListLaws.{each_append, any_append}
 use Rattle.laws.proofs.Tables.{Numbered, refusal_first, refusal_second}
-use Rattle.laws.proofs.Tests.{or_none}
+use Rattle.std.proofs.lemmas.Bool.{or_parts}
 use Rattle.mesh.specs.Model.{Raw, cells_from}
 use Rattle.mesh.specs.Rings.{rings_of}
 use Rattle.mesh.specs.Acceptance.{ends_off, cell_table, cells_table}
@@ -27,7 +27,7 @@ use Rattle.mesh.specs.declared.CellTally.{CellTally}
 -- the next end
 pub ends_next : (at : ℕ) (es : List ℕ) (n i : ℕ) → ends_off at (drop i es) n ≡ false → i < length es → (at ≤ get_or es i 0) × (ends_off (get_or es i 0) (drop (i + 1) es) n ≡ false)
 ends_next at es n i h l =
-    let p = or_none (ltb (get_or es i 0) at) (ends_off (get_or es i 0) (drop (suc i) es) n) (rw (drop-cons es i 0 l) at h) in
+    let p = or_parts (ltb (get_or es i 0) at) (ends_off (get_or es i 0) (drop (suc i) es) n) (rw (drop-cons es i 0 l) at h) in
     (ltb-false (get_or es i 0) at p.0, rw (add-one i) p.1)
 
 -- ---- the next cell
@@ -103,8 +103,8 @@ module _ {n : ℕ} {cs rest later : List Raw} {t : CellTally} {before : ℕ} (r 
   -- the next cell's words are some of all
   pub next_words : (p : ℕ → Bool) → any p (words_in cs) ≡ false → any p c.words ≡ false
   next_words p h =
-      let a = or_none (any p (words_in r.seen)) (any p (c.words ++ words_in later)) (sym (any_append p (words_in r.seen) (c.words ++ words_in later)) ∙ ap (any p) (sym words_are) ∙ h) in
-      (or_none (any p c.words) (any p (words_in later)) (sym (any_append p c.words (words_in later)) ∙ a.1)).0
+      let a = or_parts (any p (words_in r.seen)) (any p (c.words ++ words_in later)) (sym (any_append p (words_in r.seen) (c.words ++ words_in later)) ∙ ap (any p) (sym words_are) ∙ h) in
+      (or_parts (any p c.words) (any p (words_in later)) (sym (any_append p c.words (words_in later)) ∙ a.1)).0
 
   pub next_length : length c.words ≤ length (words_in cs)
   next_length = omega (arith, ap length words_are, length-append (words_in r.seen) (c.words ++ words_in later), length-append c.words (words_in later))

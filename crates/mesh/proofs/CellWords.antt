@@ -13,7 +13,7 @@ use Rattle.laws.specs.Lists.{any, each}
 use Rattle.laws.specs.Merging.{AllBelow}
 use Rattle.laws.proofs.Bounds.{below_append}
 use Rattle.laws.proofs.ListLaws.{keep_append}
-use Rattle.laws.proofs.Tests.{tested, or_none}
+use Rattle.std.proofs.lemmas.Bool.{cases_Bool, or_parts}
 use Rattle.geometry.specs.Coordinates.{node_count}
 use Rattle.mesh.specs.Model.{Model, Raw, PHED, cells_from, cells_of}
 use Rattle.mesh.specs.Rings.{separator, nodes_in}
@@ -30,7 +30,7 @@ round_words at [] [] (w ∷ ws) l h = absurd (omega (arith, eqb-true at (at + su
 round_words at [] (e ∷ es) ws l h = absurd (omega arith)
 round_words at (k ∷ ks) [] ws l h = absurd (omega arith)
 round_words at (k ∷ ks) (e ∷ es) ws l h =
-    let p = or_none (ltb e at) (ends_off e es (at + length ws)) h in
+    let p = or_parts (ltb e at) (ends_off e es (at + length ws)) h in
     let n : at + length ws ≡ e + length (drop (e - at) ws) =
     omega (arith, length-drop (e - at) ws, ltb-false e at p.0, ends_most e es (at + length ws) p.1) in
     ap (λ (r : List ℕ). take (e - at) ws ++ r) (round_words e ks es (drop (e - at) ws) (omega arith) (ap (ends_off e es) (sym n) ∙ p.1))
@@ -71,7 +71,7 @@ word_low n k w e s = leb-false n w (go (eqb k PHED) e)
 -- so are all that words name, where none is off
 pub named_low : (n k : ℕ) (ws : List ℕ) → any (node_off n k) ws ≡ false → AllBelow n (nodes_in ws)
 named_low n k [] e = tt
-named_low n k (w ∷ ws) e = let p = or_none (node_off n k w) (any (node_off n k) ws) e in go (named_low n k ws p.1) p.0 (tested (eqb w separator))
+named_low n k (w ∷ ws) e = let p = or_parts (node_off n k w) (any (node_off n k) ws) e in go (named_low n k ws p.1) p.0 (cases_Bool (eqb w separator))
   where
     go : AllBelow n (nodes_in ws) → node_off n k w ≡ false → (eqb w separator ≡ true) ⊎ (eqb w separator ≡ false) → AllBelow n (nodes_in (w ∷ ws))
     go h p (inl t) = rw t h
@@ -81,14 +81,14 @@ named_low n k (w ∷ ws) e = let p = or_none (node_off n k w) (any (node_off n k
 pub right_words : (n : ℕ) (c : Raw) → cell_wrong n c ≡ false → any (node_off n c.kind) c.words ≡ false
 unfolding cell_wrong
 right_words n c e =
-    let p = or_none (eqb c.kind 0 || ltb PHED c.kind) (count_wrong c || any (node_off n c.kind) c.words) e in
-    (or_none (count_wrong c) (any (node_off n c.kind) c.words) p.1).1
+    let p = or_parts (eqb c.kind 0 || ltb PHED c.kind) (count_wrong c || any (node_off n c.kind) c.words) e in
+    (or_parts (count_wrong c) (any (node_off n c.kind) c.words) p.1).1
 
 -- the words of cells that are not wrong
 cells_low : (n : ℕ) (cs : List Raw) → any (cell_wrong n) cs ≡ false → AllBelow n (nodes_in (each (λ c. c.words) cs))
 cells_low n [] e = tt
 cells_low n (c ∷ cs) e =
-    let p = or_none (cell_wrong n c) (any (cell_wrong n) cs) e in
+    let p = or_parts (cell_wrong n c) (any (cell_wrong n) cs) e in
     subst (AllBelow n) (sym (keep_append (λ w. not (eqb w separator)) c.words (each (λ c. c.words) cs)))
     (below_append n (nodes_in c.words) (nodes_in (each (λ c. c.words) cs)) (named_low n c.kind c.words (right_words n c p.0)) (cells_low n cs p.1))
 
@@ -99,5 +99,5 @@ words_low m h = subst (λ (ws : List ℕ). AllBelow (node_count m.coords) (nodes
 -- and there are few of them
 pub few_nodes : (m : Model) → Accepts m → node_count m.coords ≤ node_limit
 few_nodes m h =
-    let p = or_none (ltb (3 * node_limit) (length m.coords)) (not (eqb (length m.coords % 3) 0)) h.coordinates in
+    let p = or_parts (ltb (3 * node_limit) (length m.coords)) (not (eqb (length m.coords % 3) 0)) h.coordinates in
     omega (arith, ltb-false (3 * node_limit) (length m.coords) p.0)

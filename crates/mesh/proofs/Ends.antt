@@ -6,7 +6,7 @@ use mathlib.Core.List.{List, [], ◌∷◌}
 use native.Mathlib.Numerals.{add-one}
 use native.Mathlib.Omega.{arith}
 use borrow.Author.Tests.{ltb-false, lt-ltb, le-ltb, eqb-true, not-false}
-use Rattle.laws.proofs.Tests.{or_none}
+use Rattle.std.proofs.lemmas.Bool.{or_parts}
 use lib.Dec.{ltb, eqb}
 use lib.ListN.{length, get_or, drop, drop_of_length-le}
 use lib.Seq.{drop-cons}
@@ -16,7 +16,7 @@ use Rattle.mesh.specs.Acceptance.{ends_off}
 pub ends_most : (at : ℕ) (es : List ℕ) (n : ℕ) → ends_off at es n ≡ false → at ≤ n
 ends_most at [] n h = omega (arith, eqb-true at n (not-false (eqb at n) h))
 ends_most at (e ∷ es) n h =
-    let p = or_none (ltb e at) (ends_off e es n) h in
+    let p = or_parts (ltb e at) (ends_off e es n) h in
     omega (arith, ltb-false e at p.0, ends_most e es n p.1)
 
 -- an end below the last
@@ -34,5 +34,5 @@ ends_over at n es i h = ap (λ (l : List ℕ). ends_off at l n) (drop_of_length-
 -- the next end lies between what stands before and the last
 pub end_within : (at n e : ℕ) (es rest : List ℕ) → es ≡ e ∷ rest → ends_off at es n ≡ false → (at ≤ e) × (e ≤ n)
 end_within at n e es rest is h =
-    let p = or_none (ltb e at) (ends_off e rest n) (sym (ap (λ (l : List ℕ). ends_off at l n) is) ∙ h) in
+    let p = or_parts (ltb e at) (ends_off e rest n) (sym (ap (λ (l : List ℕ). ends_off at l n) is) ∙ h) in
     (ltb-false e at p.0, ends_most e rest n p.1)

@@ -9,7 +9,7 @@ use mathlib.Core.Bool.{true, false, ◌||◌}
 use native.Mathlib.Omega.{arith}
 use borrow.Author.Tests.{le-ltb}
 use lib.Dec.{ltb, eqb}
-use Rattle.laws.proofs.Tests.{tested, or_none}
+use Rattle.std.proofs.lemmas.Bool.{cases_Bool, or_parts}
 use Rattle.std.specs.Prelude.{Result, Ok, Err}
 use Rattle.refusals.specs.declared.Refusal.{Refusal}
 use Rattle.mesh.specs.Acceptance.{kind_off}
@@ -27,7 +27,7 @@ kind_read n (Err x) k h e = absurd (apart n x k e)
 
 -- a number that is no kind's, or is below the one before
 kind_none : (before n : ℕ) → kind_off 0 n ≡ true → kind_off before n ≡ true
-kind_none before n h = go (tested (ltb n before))
+kind_none before n h = go (cases_Bool (ltb n before))
   where
     go : (ltb n before ≡ true) ⊎ (ltb n before ≡ false) → kind_off before n ≡ true
     go (inl e) = rw e
@@ -50,7 +50,7 @@ kind_phed Phed = refl
 -- a kind that was read, of a number not below the one before, is in order
 pub kind_on : (before n : ℕ) (r : Result Kind Refusal) → before ≤ n → KindRead n r → KindAfter before n r
 kind_on before n (Ok k) h e =
-    let p = or_none (ltb n 0 || eqb n 0) (ltb PHED n) (sym (ap (kind_off 0) e) ∙ number_on k) in
-    let q = or_none (ltb n 0) (eqb n 0) p.0 in
+    let p = or_parts (ltb n 0 || eqb n 0) (ltb PHED n) (sym (ap (kind_off 0) e) ∙ number_on k) in
+    let q = or_parts (ltb n 0) (eqb n 0) p.0 in
     (e, rw (le-ltb n before h, q.1) p.1)
 kind_on before n (Err x) h e = (e.0, kind_none before n e.1)

@@ -12,7 +12,7 @@ use Rattle.laws.specs.Lists.{each}
 use Rattle.laws.specs.Limits.{cell_limit, word_limit, flag_limit}
 use Rattle.laws.specs.Refusals.{refusal}
 use Rattle.laws.proofs.Tables.{Numbered, numbered_append, refusal_first, refusal_second}
-use Rattle.laws.proofs.Tests.{or_none}
+use Rattle.std.proofs.lemmas.Bool.{or_parts}
 use Rattle.geometry.specs.Coordinates.{node_count, count_off, tolerance_off, coordinates_off}
 use Rattle.mesh.specs.Model.{Model, Raw, cells_of}
 use Rattle.mesh.specs.Rings.{Face, rings_of, faces_from, number_from, numbered, faces_of, faces, ring_words}
@@ -41,10 +41,10 @@ shaped m h =
     let b = ltb cell_limit (length m.kinds) in
     let d = ltb word_limit (length m.words) in
     let e = not (eqb (length m.kinds) (length m.ends)) in
-    let p = or_none (a || b || d || e) (ends_off 0 m.ends (length m.words)) h in
-    let q = or_none (a || b || d) e p.0 in
-    let r = or_none (a || b) d q.0 in
-    let s = or_none a b r.0 in
+    let p = or_parts (a || b || d || e) (ends_off 0 m.ends (length m.words)) h in
+    let q = or_parts (a || b || d) e p.0 in
+    let r = or_parts (a || b) d q.0 in
+    let s = or_parts a b r.0 in
     record {
       count = s.0;
       cells = ltb-false cell_limit (length m.kinds) s.1;

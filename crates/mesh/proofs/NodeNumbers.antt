@@ -12,7 +12,8 @@ use Rattle.laws.specs.Lists.{any, each, keep}
 use Rattle.laws.specs.Merging.{AllBelow}
 use Rattle.laws.proofs.Bounds.{below_at, below_append, below_left, below_right}
 use Rattle.laws.proofs.ListLaws.{each_append}
-use Rattle.laws.proofs.Tests.{tested, clash, or_none}
+use Rattle.laws.proofs.Tests.{clash}
+use Rattle.std.proofs.lemmas.Bool.{cases_Bool, or_parts}
 use Rattle.mesh.specs.Model.{Raw, PHED}
 use Rattle.mesh.specs.Rings.{separator, at, tet_rings, hex_rings, wedge_rings, onto, runs, rings_of}
 use Rattle.mesh.specs.Acceptance.{count_wrong, node_off}
@@ -27,8 +28,8 @@ use Rattle.mesh.proofs.CellKinds.{the_fourth}
 plain_below : (n k : ℕ) (ws : List ℕ) → k ≢ PHED → any (node_off n k) ws ≡ false → AllBelow n ws
 plain_below n k [] p e = tt
 plain_below n k (w ∷ ws) p e =
-    let q = or_none (node_off n k w) (any (node_off n k) ws) e in
-    (go (tested (leb n w)) q.0, plain_below n k ws p q.1)
+    let q = or_parts (node_off n k w) (any (node_off n k) ws) e in
+    (go (cases_Bool (leb n w)) q.0, plain_below n k ws p q.1)
   where
     go : (leb n w ≡ true) ⊎ (leb n w ≡ false) → node_off n k w ≡ false → w < n
     go (inl a) f = clash (rw (a, ne_eqb k PHED p)) f
@@ -36,7 +37,7 @@ plain_below n k (w ∷ ws) p e =
 
 -- in a PHED those that are no separators
 word_below : (n w : ℕ) → node_off n PHED w ≡ false → eqb w separator ≡ false → w < n
-word_below n w e f = go (tested (leb n w))
+word_below n w e f = go (cases_Bool (leb n w))
   where
     go : (leb n w ≡ true) ⊎ (leb n w ≡ false) → w < n
     go (inl a) = clash (rw (a, f)) e
@@ -51,8 +52,8 @@ flat_onto w (r ∷ rs) = refl
 runs_below : (n : ℕ) (ws : List ℕ) → any (node_off n PHED) ws ≡ false → AllBelow n (each (λ r. r) (runs ws))
 runs_below n [] e = tt
 runs_below n (w ∷ ws) e =
-    let q = or_none (node_off n PHED w) (any (node_off n PHED) ws) e in
-    go (tested (eqb w separator)) (runs_below n ws q.1) q.0
+    let q = or_parts (node_off n PHED w) (any (node_off n PHED) ws) e in
+    go (cases_Bool (eqb w separator)) (runs_below n ws q.1) q.0
   where
     go : (eqb w separator ≡ true) ⊎ (eqb w separator ≡ false) → AllBelow n (each (λ r. r) (runs ws)) → node_off n PHED w ≡ false → AllBelow n (each (λ r. r) (runs (w ∷ ws)))
     go (inl s) h f = rw s h
@@ -60,7 +61,7 @@ runs_below n (w ∷ ws) e =
 
 keep-below : (n : ℕ) (p : List ℕ → Bool) (rs : List (List ℕ)) → AllBelow n (each (λ r. r) rs) → AllBelow n (each (λ r. r) (keep p rs))
 keep-below n p [] h = tt
-keep-below n p (r ∷ rs) h = go (tested (p r)) (keep-below n p rs (below_right n r (each (λ (l : List ℕ). l) rs) h))
+keep-below n p (r ∷ rs) h = go (cases_Bool (p r)) (keep-below n p rs (below_right n r (each (λ (l : List ℕ). l) rs) h))
   where
     go : (p r ≡ true) ⊎ (p r ≡ false) → AllBelow n (each (λ r. r) (keep p rs)) → AllBelow n (each (λ r. r) (keep p (r ∷ rs)))
     go (inl t) k = rw t (below_append n r (each (λ (l : List ℕ). l) (keep p rs)) (below_left n r (each (λ (l : List ℕ). l) rs) h) k)
@@ -84,7 +85,7 @@ module _ (n : ℕ) (ws : List ℕ) (h : AllBelow n ws) where
 
 -- the nodes of a cell's rings are below n
 pub cell_below : (n : ℕ) (c : Raw) → WellCell c → any (node_off n c.kind) c.words ≡ false → AllBelow n (each (λ r. r) (rings_of c))
-cell_below n c w e = go (tested (eqb c.kind 1)) (tested (eqb c.kind 2)) (tested (eqb c.kind 3))
+cell_below n c w e = go (cases_Bool (eqb c.kind 1)) (cases_Bool (eqb c.kind 2)) (cases_Bool (eqb c.kind 3))
   where
     flat_below : {rs : List (List ℕ)} → rings_of c ≡ rs → AllBelow n (each (λ r. r) rs) → AllBelow n (each (λ r. r) (rings_of c))
     flat_below q h = subst (λ (l : List (List ℕ)). AllBelow n (each (λ r. r) l)) (sym q) h
@@ -112,19 +113,19 @@ cell_below n c w e = go (tested (eqb c.kind 1)) (tested (eqb c.kind 2)) (tested 
 right_cell : (n : ℕ) (c : Raw) → cell_wrong n c ≡ false → WellCell c × (any (node_off n c.kind) c.words ≡ false)
 unfolding cell_wrong
 right_cell n c e =
-    let p = or_none (eqb c.kind 0 || ltb PHED c.kind) (count_wrong c || any (node_off n c.kind) c.words) e in
-    let q = or_none (eqb c.kind 0) (ltb PHED c.kind) p.0 in
-    let r = or_none (count_wrong c) (any (node_off n c.kind) c.words) p.1 in
+    let p = or_parts (eqb c.kind 0 || ltb PHED c.kind) (count_wrong c || any (node_off n c.kind) c.words) e in
+    let q = or_parts (eqb c.kind 0) (ltb PHED c.kind) p.0 in
+    let r = or_parts (count_wrong c) (any (node_off n c.kind) c.words) p.1 in
     (record { kind = rw (le-ltb c.kind 0 (omega arith), q.0) q.1; count = r.0 }, r.1)
 
 pub well_cells : (n : ℕ) (cs : List Raw) → any (cell_wrong n) cs ≡ false → WellCells cs
 well_cells n [] e = tt
-well_cells n (c ∷ cs) e = let p = or_none (cell_wrong n c) (any (cell_wrong n) cs) e in ((right_cell n c p.0).0, well_cells n cs p.1)
+well_cells n (c ∷ cs) e = let p = or_parts (cell_wrong n c) (any (cell_wrong n) cs) e in ((right_cell n c p.0).0, well_cells n cs p.1)
 
 pub cells_below : (n : ℕ) (cs : List Raw) → any (cell_wrong n) cs ≡ false → AllBelow n (each (λ r. r) (each rings_of cs))
 cells_below n [] e = tt
 cells_below n (c ∷ cs) e =
-    let p = or_none (cell_wrong n c) (any (cell_wrong n) cs) e in
+    let p = or_parts (cell_wrong n c) (any (cell_wrong n) cs) e in
     let q = right_cell n c p.0 in
     rw (each_append (λ (r : List ℕ). r) (rings_of c) (each rings_of cs))
     (below_append n (each (λ (r : List ℕ). r) (rings_of c)) (each (λ (r : List ℕ). r) (each rings_of cs)) (cell_below n c q.0 q.1) (cells_below n cs p.1))

@@ -11,7 +11,7 @@ use lib.ListN.{length, length-append}
 use Rattle.std.specs.Prelude.{Some, None}
 use Rattle.laws.specs.Limits.{ring_limit}
 use Rattle.laws.specs.Lists.{any, keep, each}
-use Rattle.laws.proofs.Tests.{tested}
+use Rattle.std.proofs.lemmas.Bool.{cases_Bool}
 use Rattle.mesh.specs.Rings.{separator, onto, runs, phed_rings}
 use Rattle.mesh.specs.Steps.{ring_total, too_long, RunsCounted}
 use Rattle.mesh.specs.declared.CellTally.{CellTally}
@@ -21,7 +21,7 @@ use Rattle.mesh.specs.declared.CellTally.{CellTally}
 -- a run that is too long is a ring
 pub long_rings : (rs : List (List ℕ)) → any too_long (keep (λ r. leb 3 (length r)) rs) ≡ any too_long rs
 long_rings [] = refl
-long_rings (r ∷ rs) = go (tested (leb 3 (length r))) (long_rings rs)
+long_rings (r ∷ rs) = go (cases_Bool (leb 3 (length r))) (long_rings rs)
   where
     go : (leb 3 (length r) ≡ true) ⊎ (leb 3 (length r) ≡ false) → any too_long (keep (λ r. leb 3 (length r)) rs) ≡ any too_long rs
         → any too_long (keep (λ r. leb 3 (length r)) (r ∷ rs)) ≡ any too_long (r ∷ rs)
@@ -31,7 +31,7 @@ long_rings (r ∷ rs) = go (tested (leb 3 (length r))) (long_rings rs)
 -- rings have three words or more, and no more than there are
 few_rings : (rs : List (List ℕ)) → 3 * length (keep (λ r. leb 3 (length r)) rs) ≤ ring_total (keep (λ r. leb 3 (length r)) rs)
 few_rings [] = omega arith
-few_rings (r ∷ rs) = go (tested (leb 3 (length r))) (few_rings rs)
+few_rings (r ∷ rs) = go (cases_Bool (leb 3 (length r))) (few_rings rs)
   where
     go : (leb 3 (length r) ≡ true) ⊎ (leb 3 (length r) ≡ false) → 3 * length (keep (λ r. leb 3 (length r)) rs) ≤ ring_total (keep (λ r. leb 3 (length r)) rs)
         → 3 * length (keep (λ r. leb 3 (length r)) (r ∷ rs)) ≤ ring_total (keep (λ r. leb 3 (length r)) (r ∷ rs))
@@ -40,7 +40,7 @@ few_rings (r ∷ rs) = go (tested (leb 3 (length r))) (few_rings rs)
 
 small_rings : (rs : List (List ℕ)) → ring_total (keep (λ r. leb 3 (length r)) rs) ≤ ring_total rs
 small_rings [] = omega arith
-small_rings (r ∷ rs) = go (tested (leb 3 (length r))) (small_rings rs)
+small_rings (r ∷ rs) = go (cases_Bool (leb 3 (length r))) (small_rings rs)
   where
     go : (leb 3 (length r) ≡ true) ⊎ (leb 3 (length r) ≡ false) → ring_total (keep (λ r. leb 3 (length r)) rs) ≤ ring_total rs → ring_total (keep (λ r. leb 3 (length r)) (r ∷ rs)) ≤ ring_total (r ∷ rs)
     go (inl e) h = rw e (omega (arith, length-append r (each (λ (x : List ℕ). x) (keep (λ x. leb 3 (length x)) rs)), length-append r (each (λ (x : List ℕ). x) rs)))
@@ -52,7 +52,7 @@ onto_total w (r ∷ rs) = refl
 
 runs_total : (ws : List ℕ) → ring_total (runs ws) ≤ length ws
 runs_total [] = omega arith
-runs_total (w ∷ ws) = go (tested (eqb w separator)) (runs_total ws)
+runs_total (w ∷ ws) = go (cases_Bool (eqb w separator)) (runs_total ws)
   where
     go : (eqb w separator ≡ true) ⊎ (eqb w separator ≡ false) → ring_total (runs ws) ≤ length ws → ring_total (runs (w ∷ ws)) ≤ suc (length ws)
     go (inl e) h = rw e (omega arith)

@@ -13,7 +13,7 @@ use Rattle.std.specs.Option.{unwrap_or}
 use Rattle.std.specs.List.{position, position_or_len}
 use Rattle.std.proofs.lemmas.List.Recursion.{is_position_or_len}
 use Rattle.laws.specs.Lists.{only_if, keep}
-use Rattle.laws.proofs.Tests.{tested}
+use Rattle.std.proofs.lemmas.Bool.{cases_Bool}
 use Rattle.mesh.specs.Rings.{separator, runs, phed_rings}
 use Rattle.mesh.specs.Steps.{lead}
 
@@ -21,7 +21,7 @@ use Rattle.mesh.specs.Steps.{lead}
 
 pub lead_le : (ws : List ℕ) → lead ws ≤ length ws
 lead_le [] = omega arith
-lead_le (w ∷ ws) = go (tested (eqb w separator)) (lead_le ws)
+lead_le (w ∷ ws) = go (cases_Bool (eqb w separator)) (lead_le ws)
   where
     go : (eqb w separator ≡ true) ⊎ (eqb w separator ≡ false) → lead ws ≤ length ws → lead (w ∷ ws) ≤ suc (length ws)
     go (inl e) h = rw e (omega arith)
@@ -32,7 +32,7 @@ lead_is : (ws : List ℕ) → lead ws ≡ position_or_len (λ w. eqb w separator
 lead_is ws = is_position_or_len lead (λ w. eqb w separator) refl (λ w l. ap (cond (eqb w separator) 0) (omega arith)) ws
 
 pub lead_found : (ws : List ℕ) → unwrap_or (position (λ w. eqb w separator) ws) (length ws) ≡ lead ws
-lead_found ws = go (tested (ltb (position_or_len (λ w. eqb w separator) ws) (length ws)))
+lead_found ws = go (cases_Bool (ltb (position_or_len (λ w. eqb w separator) ws) (length ws)))
   where
     go : (ltb (position_or_len (λ w. eqb w separator) ws) (length ws) ≡ true) ⊎ (ltb (position_or_len (λ w. eqb w separator) ws) (length ws) ≡ false) → unwrap_or (position (λ w. eqb w separator) ws) (length ws) ≡ lead ws
     go (inl e) = rw e (sym (lead_is ws))
@@ -46,7 +46,7 @@ behind ws = cond (ltb (lead ws) (length ws)) (runs (drop (suc (lead ws)) ws)) []
 
 runs_first : (ws : List ℕ) → runs ws ≡ take (lead ws) ws ∷ behind ws
 runs_first [] = refl
-runs_first (w ∷ ws) = go (tested (eqb w separator)) (runs_first ws)
+runs_first (w ∷ ws) = go (cases_Bool (eqb w separator)) (runs_first ws)
   where
     go : (eqb w separator ≡ true) ⊎ (eqb w separator ≡ false) → runs ws ≡ take (lead ws) ws ∷ behind ws → runs (w ∷ ws) ≡ take (lead (w ∷ ws)) (w ∷ ws) ∷ behind (w ∷ ws)
     go (inl e) h = rw (e, lt-ltb 0 (suc (length ws)) (omega arith))
@@ -54,7 +54,7 @@ runs_first (w ∷ ws) = go (tested (eqb w separator)) (runs_first ws)
 
 -- the runs behind the first that pass a test, which fails for an empty run
 keep_behind : (p : List ℕ → Bool) → p [] ≡ false → (ws : List ℕ) → keep p (behind ws) ≡ keep p (runs (drop (suc (lead ws)) ws))
-keep_behind p e ws = go (tested (ltb (lead ws) (length ws)))
+keep_behind p e ws = go (cases_Bool (ltb (lead ws) (length ws)))
   where
     go : (ltb (lead ws) (length ws) ≡ true) ⊎ (ltb (lead ws) (length ws) ≡ false) → keep p (behind ws) ≡ keep p (runs (drop (suc (lead ws)) ws))
     go (inl t) = rw t

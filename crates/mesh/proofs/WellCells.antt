@@ -14,7 +14,7 @@ use Rattle.mesh.specs.declared.model.RawCells.{RawCells}
 use lib.ListN.{length, length-append}
 use Rattle.laws.specs.Limits.{cell_limit, word_limit}
 use Rattle.laws.specs.Lists.{any, each}
-use Rattle.laws.proofs.Tests.{or_none}
+use Rattle.std.proofs.lemmas.Bool.{or_parts}
 use Rattle.mesh.specs.Model.{Model, Raw, PHED, cells_of}
 use Rattle.mesh.specs.Acceptance.{kind_off, count_wrong, node_off, model_refusal}
 use Rattle.geometry.specs.Coordinates.{node_count}
@@ -25,8 +25,8 @@ use Rattle.mesh.proofs.CellWords.{cells_count, cells_words}
 -- the first cell, and the others
 pub well_first : (c : Raw) (cs : List Raw) → any is_ill (c ∷ cs) ≡ false → WellCell c × (any is_ill cs ≡ false)
 well_first c cs h =
-    let p = or_none (is_ill c) (any is_ill cs) h in
-    let q = or_none (kind_off 0 c.kind) (count_wrong c) p.0 in
+    let p = or_parts (is_ill c) (any is_ill cs) h in
+    let q = or_parts (kind_off 0 c.kind) (count_wrong c) p.0 in
     (record { kind = q.0; count = q.1 }, p.1)
 
 pub well_cells : (cs : List Raw) → any is_ill cs ≡ false → WellCells cs
@@ -38,10 +38,10 @@ right_cells : (n : ℕ) (cs : List Raw) → any (cell_wrong n) cs ≡ false → 
 unfolding cell_wrong
 right_cells n [] h = refl
 right_cells n (c ∷ cs) h =
-    let p = or_none (cell_wrong n c) (any (cell_wrong n) cs) h in
-    let q = or_none (eqb c.kind 0 || ltb PHED c.kind) (count_wrong c || any (node_off n c.kind) c.words) p.0 in
-    let k = or_none (eqb c.kind 0) (ltb PHED c.kind) q.0 in
-    let w = or_none (count_wrong c) (any (node_off n c.kind) c.words) q.1 in
+    let p = or_parts (cell_wrong n c) (any (cell_wrong n) cs) h in
+    let q = or_parts (eqb c.kind 0 || ltb PHED c.kind) (count_wrong c || any (node_off n c.kind) c.words) p.0 in
+    let k = or_parts (eqb c.kind 0) (ltb PHED c.kind) q.0 in
+    let w = or_parts (count_wrong c) (any (node_off n c.kind) c.words) q.1 in
     rw (le-ltb c.kind 0 (omega arith), k.0, k.1, w.0) (right_cells n cs p.1)
 
 -- those of an accepted model

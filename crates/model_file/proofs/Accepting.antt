@@ -14,7 +14,8 @@ use Rattle.laws.specs.Limits.{coordinate_least, coordinate_most, flag_limit}
 use Rattle.laws.specs.Lists.{any, All}
 use Rattle.laws.specs.Refusals.{refusal}
 use Rattle.laws.proofs.Tables.{refusal_first, refusal_second}
-use Rattle.laws.proofs.Tests.{tested, clash, and_parts, or_none}
+use Rattle.laws.proofs.Tests.{clash}
+use Rattle.std.proofs.lemmas.Bool.{and_parts, cases_Bool, or_parts}
 use Rattle.floats.specs.Floats.{zero64, is_finite}
 use Rattle.geometry.specs.Coordinates.{node_count, tolerance_off, coordinate_off, coordinates_off}
 use Rattle.mesh.specs.Model.{Model, Raw, PHED, cells_from, cells_of}
@@ -24,7 +25,7 @@ use Rattle.mesh.specs.Steps.{cell_with}
 use Rattle.mesh.proofs.Ends.{ends_most}
 use Rattle.mesh.proofs.CellTallies.{nine}
 use Rattle.mesh.proofs.ModelTable.{Shaped, shaped}
-use Rattle.model_file.proofs.Numbers.{all_append}
+use Rattle.laws.proofs.Holding.{all_append}
 use Rattle.model_file.proofs.Fields.{Word}
 use Rattle.model_file.proofs.Layouts.{Real}
 
@@ -37,7 +38,7 @@ row_none number false n z h = (refl, h)
 
 -- the first table refuses nothing
 pub table_none : (a b : List (ℕ × Bool)) → refusal (a ++ b) ≡ 0 → refusal a ≡ 0
-table_none a b h = go (tested (eqb (refusal a) 0))
+table_none a b h = go (cases_Bool (eqb (refusal a) 0))
   where
     go : (eqb (refusal a) 0 ≡ true) ⊎ (eqb (refusal a) 0 ≡ false) → refusal a ≡ 0
     go (inl e) = eqb-true (refusal a) 0 e
@@ -58,7 +59,7 @@ le_real a (fin s m k) e = tt
 coords_real : (cs : List Float) → coordinates_off cs ≡ false → All Real cs
 coords_real [] h = tt
 coords_real (x ∷ cs) h =
-    let p = or_none (coordinate_off x) (coordinates_off cs) h in
+    let p = or_parts (coordinate_off x) (coordinates_off cs) h in
     let q = and_parts (le coordinate_least x) (le x coordinate_most) (not-false (le coordinate_least x && le x coordinate_most) p.0) in
     (le_real coordinate_least x q.0, coords_real cs p.1)
 
@@ -70,7 +71,7 @@ tolerance_real t h = le_real zero64 t (and_parts (is_finite t) (le zero64 t) (no
 
 -- a word that is no wrong node number is a node's or the separator
 word_kept : (n k w : ℕ) → n ≤ 65535 → node_off n k w ≡ false → Word w
-word_kept n k w few h = go (tested (leb n w))
+word_kept n k w few h = go (cases_Bool (leb n w))
   where
     go : (leb n w ≡ true) ⊎ (leb n w ≡ false) → Word w
     go (inl e) = inr (eqb-true w separator (and_parts (eqb k PHED) (eqb w separator) (not-false (eqb k PHED && eqb w separator) (rw e at h))).1)
@@ -80,7 +81,7 @@ word_kept n k w few h = go (tested (leb n w))
 words_kept : (n k : ℕ) (ws : List ℕ) → n ≤ 65535 → any (node_off n k) ws ≡ false → All Word ws
 words_kept n k [] few h = tt
 words_kept n k (w ∷ ws) few h =
-    let p = or_none (node_off n k w) (any (node_off n k) ws) h in
+    let p = or_parts (node_off n k w) (any (node_off n k) ws) h in
     (word_kept n k w few p.0, words_kept n k ws few p.1)
 
 -- the words of a cell that passes
@@ -102,7 +103,7 @@ cells_kept n before at (k ∷ ks) (e ∷ es) ws few l a h =
     let bk = drop (e - at) ws in
     let c = cell_with k fr in
     let later = cells_table n k (cells_from e ks es bk) in
-    let p = or_none (ltb e at) (ends_off e es (at + length ws)) a in
+    let p = or_parts (ltb e at) (ends_off e es (at + length ws)) a in
     let low : at ≤ e = ltb-false e at p.0 in
     let up = ends_most e es (at + length ws) p.1 in
     let ld = length-drop (e - at) ws in
@@ -132,7 +133,7 @@ accepted m h =
     let p7 = row_none 7 (coordinates_off m.coords) _ (λ e. omega arith) p6.1 in
     let p8 = row_none 8 (eqb (length m.kinds) 0) _ (λ e. omega arith) p7.1 in
     let s = shaped m p5.0 in
-    let q = or_none (ltb 196605 (length m.coords)) (not (eqb (length m.coords % 3) 0)) s.count in
+    let q = or_parts (ltb 196605 (length m.coords)) (not (eqb (length m.coords % 3) 0)) s.count in
     let few : length m.coords ≤ 196605 = ltb-false 196605 (length m.coords) q.0 in
     let nines = table_none (cells_table (node_count m.coords) 0 (cells_of m)) ((10, ltb flag_limit m.flags) ∷ []) p8.1 in
     record {

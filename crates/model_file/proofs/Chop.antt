@@ -10,7 +10,7 @@ use Rattle.model_file.specs.File.{node_records, more_records, chop, records, las
 use Rattle.model_file.specs.Steps.{join, cells}
 use Rattle.laws.specs.Lists.{All}
 use Rattle.model_file.specs.Held.{Byte}
-use Rattle.model_file.proofs.Numbers.{all_append, all_take, all_drop}
+use Rattle.laws.proofs.Holding.{all_append, all_take, all_drop}
 use Rattle.model_file.proofs.Layouts.{word_length}
 
 -- a record of 32 bytes

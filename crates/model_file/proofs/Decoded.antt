@@ -11,7 +11,8 @@ use lib.ListN.{length, take, drop, length-append, drop_of_length-le}
 use lib.Seq.{take_at, drop_at, take_all}
 use lib.Dec.{eqb}
 use borrow.Author.Tests.{eqb-true, not-false}
-use Rattle.laws.proofs.Tests.{and_parts, clash}
+use Rattle.laws.proofs.Tests.{clash}
+use Rattle.std.proofs.lemmas.Bool.{and_parts}
 use Rattle.mesh.specs.Steps.{cell_with}
 use Rattle.model_file.specs.Records.{words_at, word_record, cell_record, more_record, letter, byte1, count, coords_in, kinds_in, words_in, ends_in, stage, in_nodes, after_full, ended, words_right, record_off}
 use Rattle.model_file.specs.Steps.{cells, judge}
@@ -22,7 +23,7 @@ use Rattle.model_file.specs.declared.Letter.{Letter}
 use Rattle.model_file.specs.declared.Letter.TheVariants.{Node, Cell, More, Last}
 use Rattle.model_file.specs.declared.Stage.{Stage}
 use Rattle.model_file.specs.declared.Stage.TheVariants.{Nodes, Cells, Full}
-use Rattle.model_file.proofs.Numbers.{all_left, all_right}
+use Rattle.laws.proofs.Holding.{all_left, all_right}
 use Rattle.model_file.proofs.Fields.{length-words_at}
 use Rattle.model_file.proofs.Layouts.{Real, marked, node_back, word_back}
 use Rattle.model_file.proofs.Judgement.{passed, after_last, none_left, word_count, stage_open, stage_cells}

@@ -11,7 +11,7 @@ use lib.Dec.{eqb, ltb}
 use lib.Ieee.{Float}
 use borrow.Author.Tests.{eq-eqb, eqb-true, ltb-false, not-false}
 use Rattle.laws.specs.Lists.{only_if, All}
-use Rattle.laws.proofs.Tests.{or_none}
+use Rattle.std.proofs.lemmas.Bool.{or_parts}
 use Rattle.mesh.specs.Acceptance.{ends_off}
 use Rattle.mesh.specs.Steps.{cell_with}
 use Rattle.mesh.proofs.Ends.{ends_most}
@@ -19,7 +19,7 @@ use Rattle.model_file.specs.Records.{last_record, after_full, ended}
 use Rattle.model_file.specs.File.{node_records, more_records, cell_records, coords_of, kinds_of, words_of, ends_of}
 use Rattle.model_file.specs.Steps.{cells, judge}
 use Rattle.model_file.specs.Held.{Fits}
-use Rattle.model_file.proofs.Numbers.{all_take, all_drop}
+use Rattle.laws.proofs.Holding.{all_take, all_drop}
 use Rattle.model_file.specs.declared.Stage.{Stage}
 use Rattle.model_file.specs.declared.Stage.TheVariants.{Nodes, Cells, Full}
 use Rattle.model_file.proofs.Judgement.{stage_open}
@@ -156,7 +156,7 @@ module _ (flags cap : ℕ) (tolerance : Float) where
   cells_read at (k ∷ ks) (e ∷ es) ws l a h =
       let t = last_record flags cap tolerance ∷ [] in
       let m = e - at in
-      let p = or_none (ltb e at) (ends_off e es (at + length ws)) a in
+      let p = or_parts (ltb e at) (ends_off e es (at + length ws)) a in
       let up = ends_most e es (at + length ws) p.1 in
       let low : at ≤ e = ltb-false e at p.0 in
       let fr = take m ws in

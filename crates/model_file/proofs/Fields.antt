@@ -9,7 +9,7 @@ use lib.ListN.{length, drop}
 use lib.Dec.{eqb}
 use borrow.Author.Tests.{eqb-true, ne_eqb}
 use Rattle.laws.specs.Bytes.{number, bytes}
-use Rattle.laws.proofs.Tests.{tested}
+use Rattle.std.proofs.lemmas.Bool.{cases_Bool}
 use Rattle.laws.proofs.ByteLaws.{number_bytes}
 use Rattle.mesh.specs.Rings.{separator}
 use Rattle.model_file.specs.Records.{narrow, widen, word_bytes, words_at}
@@ -24,7 +24,7 @@ Word w = (w < 65535) ⊎ (w ≡ separator)
 -- words of a file come back, and words of a model
 
 pub narrow_widen : (w : ℕ) → w < 65536 → narrow (widen w) ≡ w
-narrow_widen w h = go (tested (eqb w 65535))
+narrow_widen w h = go (cases_Bool (eqb w 65535))
   where
     go : (eqb w 65535 ≡ true) ⊎ (eqb w 65535 ≡ false) → narrow (widen w) ≡ w
     go (inl e) = rw e (sym (eqb-true w 65535 e))

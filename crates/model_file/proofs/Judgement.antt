@@ -7,7 +7,8 @@ use mathlib.Core.List.{List, [], ◌∷◌}
 use native.Mathlib.Omega.{arith}
 use lib.Dec.{eqb, leb}
 use borrow.Author.Tests.{leb-true}
-use Rattle.laws.proofs.Tests.{and_parts, clash}
+use Rattle.laws.proofs.Tests.{clash}
+use Rattle.std.proofs.lemmas.Bool.{and_parts}
 use Rattle.laws.proofs.Tables.{Numbered}
 use Rattle.model_file.specs.Records.{letter, count, stage, in_nodes, ended, misplaced, words_right, record_off}
 use Rattle.model_file.specs.File.{records_table}

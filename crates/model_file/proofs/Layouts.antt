@@ -13,7 +13,7 @@ use lib.Ieee.{Float, binary64, of_bits, to_bits, is_nan}
 use lib.Ieee.Bits.{of_bits-to_bits, to_bits-of_bits, to_bits-lt}
 use borrow.Author.Tests.{eqb-true, leb-true, le-leb, not-false}
 use Rattle.laws.specs.Bytes.{number, bytes, zeros}
-use Rattle.laws.proofs.Tests.{tested, and_parts}
+use Rattle.std.proofs.lemmas.Bool.{and_parts, cases_Bool}
 use Rattle.laws.proofs.ByteLaws.{number_bytes}
 use Rattle.floats.specs.Floats.{float_of, float_bytes}
 use Rattle.model_file.specs.Records.{word_bytes, words_at, node_record, word_record, last_record, letter_of, letter, byte1, count, float_at, cap_in, coords_in, words_right, record_off}
@@ -21,7 +21,8 @@ use Rattle.laws.specs.Lists.{All}
 use Rattle.model_file.specs.Held.{Byte, Fits}
 use Rattle.model_file.specs.declared.Letter.{Letter}
 use Rattle.model_file.specs.declared.Letter.TheVariants.{Node, Cell, More, Last}
-use Rattle.model_file.proofs.Numbers.{bytes_number, number_lt, zeros_true, zeros-replicate, all_take, all_drop}
+use Rattle.laws.proofs.Holding.{all_take, all_drop}
+use Rattle.model_file.proofs.Numbers.{bytes_number, number_lt, zeros_true, zeros-replicate}
 use Rattle.model_file.proofs.Fields.{length-word_bytes, length-words_at, bytes_words}
 
 -- a value that is no NaN
@@ -40,7 +41,7 @@ Marks None b = Unit {0}
 
 -- a byte, by the letter that it is read as
 marks : (b : ℕ) → Marks (letter_of b) b
-marks b = go (tested (eqb b 78)) (tested (eqb b 67)) (tested (eqb b 75)) (tested (eqb b 84))
+marks b = go (cases_Bool (eqb b 78)) (cases_Bool (eqb b 67)) (cases_Bool (eqb b 75)) (cases_Bool (eqb b 84))
   where
     go : (eqb b 78 ≡ true) ⊎ (eqb b 78 ≡ false) → (eqb b 67 ≡ true) ⊎ (eqb b 67 ≡ false) → (eqb b 75 ≡ true) ⊎ (eqb b 75 ≡ false) → (eqb b 84 ≡ true) ⊎ (eqb b 84 ≡ false) → Marks (letter_of b) b
     go (inl e) _ _ _ = rw e (eqb-true b 78 e)

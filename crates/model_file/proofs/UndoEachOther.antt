@@ -11,7 +11,7 @@ use lib.Ieee.{Float}
 use borrow.Author.Tests.{eq-eqb, ne_eqb, le-ltb, eqb-true, not-false}
 use Rattle.laws.specs.Refusals.{refusal}
 use Rattle.laws.specs.Limits.{record_limit}
-use Rattle.laws.proofs.Tests.{or_none}
+use Rattle.std.proofs.lemmas.Bool.{or_parts}
 use Rattle.mesh.specs.Model.{Model, cells_of}
 use Rattle.mesh.specs.Acceptance.{model_refusal}
 use Rattle.model_file.specs.Records.{last_record, float_at, byte1, cap_in}
@@ -20,7 +20,7 @@ use Rattle.model_file.specs.Steps.{join, cells, judge}
 use Rattle.laws.specs.Lists.{All}
 use Rattle.model_file.specs.Held.{Byte, Held}
 use Rattle.model_file.specs.declared.Stage.TheVariants.{Nodes}
-use Rattle.model_file.proofs.Numbers.{all_append}
+use Rattle.laws.proofs.Holding.{all_append}
 use Rattle.model_file.proofs.Layouts.{Real, last_cap, last_tolerance, last_back}
 use Rattle.model_file.proofs.Chop.{Whole, chop_whole, chop_bytes, join_chop, records_join, length_join, last_snoc, all_last, nodes_whole, nodes_few, cells_whole, cells_few}
 use Rattle.model_file.proofs.Encoded.{NodesRead, nodes_read, CellsRead, cells_read}
@@ -107,8 +107,8 @@ module _ (m : Model) (held : Held m) (ok : Accepted m) where
 -- a right length is one of whole records
 length_whole : (n : ℕ) → length_off n ≡ false → n ≡ 32 * (n / 32)
 length_whole n h =
-    let p = or_none (eqb n 0 || not (eqb (n % 32) 0)) (ltb record_limit (n / 32)) h in
-    let q = or_none (eqb n 0) (not (eqb (n % 32) 0)) p.0 in
+    let p = or_parts (eqb n 0 || not (eqb (n % 32) 0)) (ltb record_limit (n / 32)) h in
+    let q = or_parts (eqb n 0) (not (eqb (n % 32) 0)) p.0 in
     let m = eqb-true (n % 32) 0 (not-false (eqb (n % 32) 0) q.1) in
     omega arith
 

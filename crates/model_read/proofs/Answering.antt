@@ -17,7 +17,7 @@ use Rattle.laws.specs.Refusals.{filled}
 use Rattle.laws.proofs.Tables.{refusal_first, refusal_second, unfilled}
 use Rattle.model_file.proofs.Judgement.{records_numbered}
 use Rattle.model_file.proofs.Counts.{ends_as_cells}
-use Rattle.laws.proofs.Tests.{or_none}
+use Rattle.std.proofs.lemmas.Bool.{or_parts}
 use Rattle.model_file.specs.Records.{float_at, byte1, cap_in}
 use Rattle.model_file.specs.File.{chop, records, last_of, coords_of, kinds_of, words_of, ends_of, decode, length_off, records_table}
 use Rattle.model_file.specs.Held.{Byte}
@@ -55,15 +55,15 @@ pub record Whole (s : List ℕ) : Type 0 where
   pub few : length s / 32 ≤ 131072
 
 -- so many records
-length-chop : (n : ℕ) (s : List ℕ) → length (chop n s) ≡ n
+pub length-chop : (n : ℕ) (s : List ℕ) → length (chop n s) ≡ n
 length-chop zero s = refl
 length-chop (suc n) s = ap suc (length-chop n (drop 32 s))
 
 pub length_whole : (s : List ℕ) → length_off (length s) ≡ false → Whole s
 length_whole s h =
     let n = length s in
-    let p = or_none (eqb n 0 || not (eqb (n % 32) 0)) (ltb record_limit (n / 32)) h in
-    let q = or_none (eqb n 0) (not (eqb (n % 32) 0)) p.0 in
+    let p = or_parts (eqb n 0 || not (eqb (n % 32) 0)) (ltb record_limit (n / 32)) h in
+    let q = or_parts (eqb n 0) (not (eqb (n % 32) 0)) p.0 in
     let m = eqb-true (n % 32) 0 (not-false (eqb (n % 32) 0) q.1) in
     record { some = eqb-false n 0 q.0; whole = m; few = ltb-false record_limit (n / 32) p.1 }
 
@@ -104,9 +104,9 @@ module _ (s : List ℕ) (coords : List Float) (kinds ends words : List ℕ) wher
             let a = ltb (length coords) p.coords in
             let b = ltb (length kinds) p.cells in
             let c = ltb (length ends) p.cells in
-            let q = or_none (a || b || c) (ltb (length words) p.words) e in
-            let r = or_none (a || b) c q.0 in
-            let v = or_none a b r.0 in
+            let q = or_parts (a || b || c) (ltb (length words) p.words) e in
+            let r = or_parts (a || b) c q.0 in
+            let v = or_parts a b r.0 in
             let w = length_whole s h in
             record {
               short = omega (arith, length-chop (length s / 32) s, w.few);

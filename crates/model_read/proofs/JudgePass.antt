@@ -11,7 +11,7 @@ use lib.Dec.{eqb}
 use borrow.Author.Tests.{not-false}
 use Rattle.std.specs.Prelude.{Option, Some, None}
 use Rattle.laws.proofs.Tables.{Numbered, refusal_first, refusal_second}
-use Rattle.laws.proofs.Tests.{and_parts}
+use Rattle.std.proofs.lemmas.Bool.{and_parts}
 use Rattle.model_file.specs.Records.{letter, count, coords_in, kinds_in, words_in, stage, misplaced, record_off, words_right}
 use Rattle.model_file.specs.File.{coords_of, kinds_of, words_of, records_table}
 use Rattle.model_file.specs.Steps.{judge, record_refusal}

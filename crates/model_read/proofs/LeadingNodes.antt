@@ -13,7 +13,8 @@ use borrow.Author.Tests.{eq-eqb, ne_eqb, not-true, not-false}
 use Rattle.laws.specs.Bytes.{number, zeros}
 use Rattle.laws.specs.Refusals.{refusal}
 use Rattle.laws.proofs.Stores.{sets_append}
-use Rattle.laws.proofs.Tests.{and_parts, clash}
+use Rattle.laws.proofs.Tests.{clash}
+use Rattle.std.proofs.lemmas.Bool.{and_parts}
 use Rattle.model_file.specs.Records.{letter, count, coords_in, record_off, misplaced, stage, in_nodes}
 use Rattle.model_file.specs.File.{coords_of, kinds_of, words_of, ends_of, records_table}
 use Rattle.model_file.specs.Steps.{judge}

@@ -10,7 +10,8 @@ use lib.Seq.{slice, take-add, drop-drop}
 use borrow.Author.Tests.{eqb-true, eq-eqb}
 use Rattle.laws.specs.Bytes.{number, zeros}
 use Rattle.laws.proofs.Stores.{take-drop}
-use Rattle.laws.proofs.Tests.{and_parts, both_ways}
+use Rattle.laws.proofs.Tests.{both_ways}
+use Rattle.std.proofs.lemmas.Bool.{and_parts}
 
 -- a number below 256 is its first byte, and no other
 pub first_byte : (b m k : ℕ) → k < 256 → (eqb b k && eqb m 0) ≡ eqb (b + 256 * m) k

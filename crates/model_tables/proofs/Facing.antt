@@ -27,7 +27,8 @@ use Rattle.tables.specs.Owners.{owners_from}
 use Rattle.tables.proofs.Passing.{owners_length}
 use Rattle.laws.proofs.Rows.{joined, starts_length, joined_next, start_read, row_read}
 use Rattle.tables.proofs.Shown.{cell_read, faces_read, first_last, owned}
-use Rattle.model_tables.proofs.Sizes.{below-sets, length_set_of, sets_total}
+use Rattle.model_tables.proofs.Sizes.{below-sets, sets_total}
+use Rattle.findings.proofs.Fits.{set-length}
 use Rattle.model_tables.proofs.Reading.{holds_long, each_most}
 use Rattle.model_tables.proofs.Contents.{meets, Settled, RingTables, FaceTables}
 use Rattle.model_tables.proofs.Ringing.{starts_held, firsts_held, ring_at, first_at, face_in, rows_rise, rows_within, ring_sized, ring_known, welds_known, firsts_rising}
@@ -154,7 +155,7 @@ module _ (coords : List Float) (tol : Float) (cells : List Raw) (M K : ℕ) (l :
           rising = λ g h. omega (arith, start_at g (omega arith), start_at (g + 1) (omega arith), joined_next sets g (omega (arith, many_sets)));
           known = λ k h. set_known k (omega arith);
           asc = λ g h. subst Asc (sym (set_at g h)) (asc_distinct (ring_row l t g));
-          few = λ g h. omega (arith, ap length (set_at g h), length_set_of (ring_row l t g), (ring_sized coords tol cells M K l t s b g h).1);
+          few = λ g h. omega (arith, ap length (set_at g h), set-length (ring_row l t g), (ring_sized coords tol cells M K l t s b g h).1);
         }
 
     -- the tables are as they must be

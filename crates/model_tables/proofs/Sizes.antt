@@ -12,9 +12,9 @@ use Rattle.laws.specs.Limits.{ring_limit}
 use Rattle.laws.specs.Lists.{any, each, keep, sort}
 use Rattle.laws.specs.Merging.{AllBelow}
 use Rattle.laws.proofs.Bounds.{below_append, below_left, below_right, below-add}
-use Rattle.laws.proofs.Ascending.{add_most}
+use Rattle.findings.proofs.Fits.{set-length}
 use Rattle.laws.proofs.Sorting.{length-sort}
-use Rattle.laws.proofs.Tests.{tested, or_none}
+use Rattle.std.proofs.lemmas.Bool.{cases_Bool, or_parts}
 use Rattle.mesh.specs.Model.{Raw}
 use Rattle.mesh.specs.Rings.{runs, rings_of, node_set}
 use Rattle.mesh.specs.Acceptance.{count_wrong}
@@ -49,8 +49,8 @@ sized_many (r ∷ rs) s = omega (arith, s.0, sized_many rs s.2, length-append r 
 sized_keep : (rs : List (List ℕ)) → any too_long rs ≡ false → Sized (keep (λ r. leb 3 (length r)) rs)
 sized_keep [] e = tt
 sized_keep (r ∷ rs) e =
-    let q = or_none (too_long r) (any too_long rs) e in
-    go (tested (leb 3 (length r))) (ltb-false ring_limit (length r) q.0) (sized_keep rs q.1)
+    let q = or_parts (too_long r) (any too_long rs) e in
+    go (cases_Bool (leb 3 (length r))) (ltb-false ring_limit (length r) q.0) (sized_keep rs q.1)
   where
     go : (leb 3 (length r) ≡ true) ⊎ (leb 3 (length r) ≡ false) → length r ≤ 64 → Sized (keep (λ r. leb 3 (length r)) rs) → Sized (keep (λ r. leb 3 (length r)) (r ∷ rs))
     go (inl a) s ih = rw a (leb-true 3 (length r) a, s, ih)
@@ -58,7 +58,7 @@ sized_keep (r ∷ rs) e =
 
 -- the rings of a cell
 sized_cell : (k : ℕ) (ws : List ℕ) → WellCell (cell_with k ws) → Sized (rings_of (cell_with k ws))
-sized_cell k ws w = go (tested (eqb k 1)) (tested (eqb k 2)) (tested (eqb k 3))
+sized_cell k ws w = go (cases_Bool (eqb k 1)) (cases_Bool (eqb k 2)) (cases_Bool (eqb k 3))
   where
     go : (eqb k 1 ≡ true) ⊎ (eqb k 1 ≡ false) → (eqb k 2 ≡ true) ⊎ (eqb k 2 ≡ false) → (eqb k 3 ≡ true) ⊎ (eqb k 3 ≡ false) → Sized (rings_of (cell_with k ws))
     go (inl a) b c =
@@ -78,7 +78,7 @@ sized_cell k ws w = go (tested (eqb k 1)) (tested (eqb k 2)) (tested (eqb k 3))
     go (inr a) (inr b) (inr c) =
         let e = the_fourth k w.kind (eqb-false k 1 a) (eqb-false k 2 b) (eqb-false k 3 c) in
         let n : count_wrong (cell_with 4 ws) ≡ false = subst (λ (j : ℕ). count_wrong (cell_with j ws) ≡ false) e w.count in
-        subst Sized (sym (phed_is k ws e)) (sized_keep (runs ws) (or_none (eqb (length ws) 0) (any too_long (runs ws)) n).1)
+        subst Sized (sym (phed_is k ws e)) (sized_keep (runs ws) (or_parts (eqb (length ws) 0) (any too_long (runs ws)) n).1)
 
 -- the rings of cells
 pub sized_cells : (cs : List Raw) → WellCells cs → Sized (each rings_of cs)
@@ -105,11 +105,6 @@ below-sets n (r ∷ rs) h =
     let rest = each (λ (l : List ℕ). l) rs in
     below_append n (node_set r) (each node_set rs) (below_set n r (below_left n r rest h)) (below-sets n rs (below_right n r rest h))
 
--- a node set has at most as many words as its ring
-pub length_set_of : (r : List ℕ) → length (node_set r) ≤ length r
-length_set_of [] = omega arith
-length_set_of (x ∷ r) = omega (arith, add_most x (node_set r), length_set_of r)
-
 -- all node sets have at most as many words as all rings
 pub sets_total : (rs : List (List ℕ)) → ring_total (map node_set rs) ≤ ring_total rs
 sets_total [] = omega arith
@@ -117,7 +112,7 @@ sets_total (r ∷ rs) =
     omega (
       arith,
       sets_total rs,
-      length_set_of r,
+      set-length r,
       length-append (node_set r) (each (λ (l : List ℕ). l) (map node_set rs)),
       length-append r (each (λ (l : List ℕ). l) rs),
     )

@@ -5,14 +5,15 @@ use mathlib.Core.Bool.{Bool, true, false}
 use mathlib.Core.List.{List, [], ◌∷◌}
 use Rattle.laws.specs.Lists.{insert, sort, add, distinct}
 use Rattle.laws.proofs.Sorting.{Total}
-use Rattle.laws.proofs.Tests.{tested, clash}
+use Rattle.laws.proofs.Tests.{clash}
+use Rattle.std.proofs.lemmas.Bool.{cases_Bool}
 use Rattle.node_sets.specs.Unique.{rises, unique}
 
 module _ {ℓ} {A : Type ℓ} (le : A → A → Bool) (T : Total le) where
   -- x, above the y before the list, is put in its place
   rises_insert : (x y : A) (l : List A) → le x y ≡ false → rises le y (insert le x l) ≡ add le x (rises le y l)
   rises_insert x y [] a = rw a
-  rises_insert x y (z ∷ l) a = go (λ b. rises_insert x z l b) (tested (le x z)) (tested (le z y)) (tested (le z x))
+  rises_insert x y (z ∷ l) a = go (λ b. rises_insert x z l b) (cases_Bool (le x z)) (cases_Bool (le z y)) (cases_Bool (le z x))
     where
       go : (le x z ≡ false → rises le z (insert le x l) ≡ add le x (rises le z l)) → (le x z ≡ true) ⊎ (le x z ≡ false) → (le z y ≡ true) ⊎ (le z y ≡ false)
           → (le z x ≡ true) ⊎ (le z x ≡ false) → rises le y (insert le x (z ∷ l)) ≡ add le x (rises le y (z ∷ l))
@@ -25,7 +26,7 @@ module _ {ℓ} {A : Type ℓ} (le : A → A → Bool) (T : Total le) where
   -- x is put in its place, unless it is there
   unique_insert : (x : A) (l : List A) → unique le (insert le x l) ≡ add le x (unique le l)
   unique_insert x [] = refl
-  unique_insert x (y ∷ l) = go (tested (le x y)) (tested (le y x))
+  unique_insert x (y ∷ l) = go (cases_Bool (le x y)) (cases_Bool (le y x))
     where
       go : (le x y ≡ true) ⊎ (le x y ≡ false) → (le y x ≡ true) ⊎ (le y x ≡ false) → unique le (insert le x (y ∷ l)) ≡ add le x (unique le (y ∷ l))
       go (inl a) (inl b) = simp (a, b) (ap (λ (z : A). z ∷ rises le y l) (T.anti x y a b))

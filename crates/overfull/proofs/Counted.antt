@@ -11,7 +11,7 @@ use lib.ListN.{length, get_or, drop, drop_of_length-le}
 use lib.Seq.{drop-cons}
 use Rattle.std.specs.Prelude.{Some}
 use Rattle.laws.specs.Lists.{only_if, any, keep, elem}
-use Rattle.laws.proofs.Tests.{tested}
+use Rattle.std.proofs.lemmas.Bool.{cases_Bool}
 use Rattle.laws.proofs.Ascending.{head_in, later_in}
 use Rattle.overfull.specs.declared.Tally.{Tally}
 use Rattle.overfull.specs.Alike.{start, noted, tallied}
@@ -49,7 +49,7 @@ first_second g h hs f =
 -- nothing counts where one before g has the key
 pub earlier : (g : ℕ) (p : ℕ → Bool) (l more : List ℕ) → any p l ≡ true → ((x : ℕ) → elem x l ≡ true → x < g) → tallied g (keep p l ++ more) start ≡ start
 earlier g p [] more e f = absurd (false≢true e)
-earlier g p (x ∷ l) more e f = go (earlier g p l more) (tested (p x))
+earlier g p (x ∷ l) more e f = go (earlier g p l more) (cases_Bool (p x))
   where
     go : (any p l ≡ true → ((y : ℕ) → elem y l ≡ true → y < g) → tallied g (keep p l ++ more) start ≡ start) → (p x ≡ true) ⊎ (p x ≡ false) → tallied g (keep p (x ∷ l) ++ more) start ≡ start
     go ih (inl a) = rw (a, lt-ltb x g (f x (head_in x l)))

@@ -12,7 +12,7 @@ use lib.ListN.{length, get_or, take, drop, length-map}
 use lib.Seq.{take_at, drop_at}
 use Rattle.std.specs.Prelude.{Some, None}
 use Rattle.laws.specs.Lists.{only_if, any, keep, up_from, elem, sort, eql}
-use Rattle.laws.proofs.Tests.{tested, and_parts}
+use Rattle.std.proofs.lemmas.Bool.{and_parts, cases_Bool}
 use Rattle.laws.proofs.ListLaws.{any-map, keep-map, keep_append, keep-length, length-up_from, eql_self}
 use Rattle.laws.proofs.Ascending.{elem-keep, keep_cong, head_in, later_in}
 use Rattle.mesh.specs.Rings.{Face, key_of, same_key}
@@ -145,7 +145,7 @@ module _ (l : Layout) (t : List ℕ) (f : Faced l t) (g : ℕ) (h : g < l.at.fac
 
   -- either a face before g has the key, or g is the first
   either : ((T ≡ start) × (over_face l t g ≡ [])) ⊎ ((T ≡ tallied g (g ∷ later) start) × (over_face l t g ≡ over_of (face_row l t g) (map (face_row l t) later)))
-  either = go (tested (any q (up_from 0 g)))
+  either = go (cases_Bool (any q (up_from 0 g)))
     where
       one : T ≡ tallied g (keep q (up_from 0 g) ++ (g ∷ later)) start
       one = is ∙ ap (λ (r : List ℕ). tallied g r start) (alike_is l t f g h)

@@ -9,7 +9,8 @@ use borrow.Author.Tests.{leb-true, ltb-true}
 use lib.Dec.{leb, ltb}
 use lib.ListN.{length}
 use Rattle.laws.specs.Lists.{only_if, keep, up_from, elem, add}
-use Rattle.laws.proofs.Tests.{tested, clash, and_parts, eqb_self}
+use Rattle.laws.proofs.Tests.{clash, eqb_self}
+use Rattle.std.proofs.lemmas.Bool.{and_parts, cases_Bool}
 use Rattle.laws.proofs.ListLaws.{eql_true}
 use Rattle.laws.proofs.Ascending.{asc_ext, elem-add, elem-up_from, head_in, later_in}
 use Rattle.laws.proofs.Members.{elem-sort, elem-distinct}
@@ -38,7 +39,7 @@ in_run x i n e = let p = and_parts (leb i x) (ltb x (i + n)) (sym (elem-up_from 
 -- kept among those kept by a test that is weaker on the members
 keep_weaker : (p q : ℕ → Bool) (l : List ℕ) → ((x : ℕ) → elem x l ≡ true → p x ≡ true → q x ≡ true) → keep p (keep q l) ≡ keep p l
 keep_weaker p q [] h = refl
-keep_weaker p q (x ∷ l) h = go (keep_weaker p q l (λ y e. h y (later_in x l y e))) (tested (q x)) (tested (p x))
+keep_weaker p q (x ∷ l) h = go (keep_weaker p q l (λ y e. h y (later_in x l y e))) (cases_Bool (q x)) (cases_Bool (p x))
   where
     go : keep p (keep q l) ≡ keep p l → (q x ≡ true) ⊎ (q x ≡ false) → (p x ≡ true) ⊎ (p x ≡ false) → keep p (keep q (x ∷ l)) ≡ keep p (x ∷ l)
     go ih (inl a) b = rw a (ap (λ (r : List ℕ). only_if (p x) (x ∷ []) ++ r) ih)

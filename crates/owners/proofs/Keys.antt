@@ -11,7 +11,8 @@ use Rattle.ascending.proofs.Adding.{get_or_in}
 use Rattle.std.specs.Cmp.Lexicographic.{pointwise}
 use Rattle.laws.specs.Lists.{eql, elem, sort}
 use Rattle.laws.proofs.Members.{elem-sort}
-use Rattle.laws.proofs.Tests.{tested, or_none, eqb_comm}
+use Rattle.laws.proofs.Tests.{eqb_comm}
+use Rattle.std.proofs.lemmas.Bool.{cases_Bool, or_parts}
 use Rattle.laws.proofs.ListLaws.{eql_true}
 
 -- what `==` on slices says
@@ -23,7 +24,7 @@ pointwise_eql (x ∷ xs) (y ∷ ys) = ap (λ (e : Bool). eqb x y && e) (pointwis
 
 -- lists of unlike lengths are not equal
 pub eql-length : (a b : List ℕ) → length a ≢ length b → eql a b ≡ false
-eql-length a b z = go (tested (eql a b))
+eql-length a b z = go (cases_Bool (eql a b))
   where
     go : (eql a b ≡ true) ⊎ (eql a b ≡ false) → eql a b ≡ false
     go (inl e) = absurd (z (ap length (eql_true a b e)))
@@ -33,12 +34,12 @@ eql-length a b z = go (tested (eql a b))
 no_member : (w : ℕ) (l : List ℕ) → list_any (λ y. eqb y w) l ≡ false → elem w l ≡ false
 no_member w [] e = refl
 no_member w (y ∷ l) e =
-    let p = or_none (eqb y w) (list_any (λ y. eqb y w) l) e in
+    let p = or_parts (eqb y w) (list_any (λ y. eqb y w) l) e in
     rw (eqb_comm w y, p.0) (no_member w l p.1)
 
 -- a key that lacks a word of a ring is not the ring, sorted
 pub other_words : (key ring : List ℕ) (i w : ℕ) → i < length ring → w ≡ get_or ring i 0 → list_any (λ y. eqb y w) key ≡ false → false ≡ eql key (sort leb ring)
-other_words key ring i w h is e = go (tested (eql key (sort leb ring)))
+other_words key ring i w h is e = go (cases_Bool (eql key (sort leb ring)))
   where
     go : (eql key (sort leb ring) ≡ true) ⊎ (eql key (sort leb ring) ≡ false) → false ≡ eql key (sort leb ring)
     go (inl t) =

@@ -12,7 +12,7 @@ use lib.Seq.{sets}
 use Rattle.laws.specs.Lists.{keep, sort, eql}
 use Rattle.std.specs.Prelude.{Ok, Err}
 use Rattle.laws.specs.Refusals.{refusal, refused, done, answer}
-use Rattle.laws.proofs.Tests.{tested}
+use Rattle.std.proofs.lemmas.Bool.{cases_Bool}
 use Rattle.laws.proofs.ListLaws.{keep_append}
 use Rattle.mesh.specs.Model.{Model, Raw, cells_of}
 use Rattle.mesh.specs.Rings.{Face, same_key, rings_of, faces_from, number_from, numbered, faces_of, faces}
@@ -40,7 +40,7 @@ keyed key g = eql key (sort leb g.ring)
 cells_from_lem : (key : List ℕ) (c n : ℕ) (rs : List (List ℕ)) → map (λ g. g.cell) (keep (keyed key) (faces_from c n rs)) ≡ holders key c rs
 unfolding faces_from
 cells_from_lem key c n [] = refl
-cells_from_lem key c n (r ∷ rs) = go (tested (eql key (sort leb r))) (cells_from_lem key c (suc n) rs)
+cells_from_lem key c n (r ∷ rs) = go (cases_Bool (eql key (sort leb r))) (cells_from_lem key c (suc n) rs)
   where
     go : (eql key (sort leb r) ≡ true) ⊎ (eql key (sort leb r) ≡ false) → map (λ g. g.cell) (keep (keyed key) (faces_from c (suc n) rs)) ≡ holders key c rs
         → map (λ g. g.cell) (keep (keyed key) (faces_from c n (r ∷ rs))) ≡ holders key c (r ∷ rs)

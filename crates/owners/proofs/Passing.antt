@@ -9,7 +9,7 @@ use native.Mathlib.Omega.{arith}
 use lib.Dec.{leb}
 use lib.ListN.{length, length-append}
 use Rattle.laws.specs.Lists.{each, sort, eql}
-use Rattle.laws.proofs.Tests.{tested}
+use Rattle.std.proofs.lemmas.Bool.{cases_Bool}
 use Rattle.mesh.specs.Model.{Raw}
 use Rattle.mesh.specs.Rings.{rings_of}
 use Rattle.rings.proofs.Putting.{Putting, putting_start, putting_next}
@@ -20,7 +20,7 @@ use Rattle.owners.specs.declared.Holders.{Holders}
 -- no more cells are noted than there are rings
 pub holders_few : (key : List ℕ) (cell : ℕ) (rs : List (List ℕ)) → length (holders key cell rs) ≤ length rs
 holders_few key cell [] = omega arith
-holders_few key cell (r ∷ rs) = go (tested (eql key (sort leb r))) (holders_few key cell rs)
+holders_few key cell (r ∷ rs) = go (cases_Bool (eql key (sort leb r))) (holders_few key cell rs)
   where
     go : (eql key (sort leb r) ≡ true) ⊎ (eql key (sort leb r) ≡ false) → length (holders key cell rs) ≤ length rs → length (holders key cell (r ∷ rs)) ≤ suc (length rs)
     go (inl e) ih = rw e (omega arith)

@@ -9,7 +9,7 @@ use lib.ListN.{get_or, get_or-replicate}
 use Rattle.laws.specs.Lists.{each, up_from}
 use Rattle.laws.proofs.ListLaws.{each_append, up_from_snoc}
 use Rattle.laws.proofs.Stores.{get_or-region}
-use Rattle.laws.proofs.Tests.{split}
+use Rattle.std.proofs.lemmas.Bool.{cases_lt}
 use Rattle.findings.specs.Findings.{Rules}
 use Rattle.index.specs.Faces.{input}
 use Rattle.seek.specs.Steps.{Hidden}
@@ -92,4 +92,4 @@ hidden_cell l t c f end faced low a b e h k =
     ⊎_elim
     (λ o. own_cell l.at t f h (faced.owned c f low a (omega (arith, b, e)) ∙ sym (faced.owned c h low (omega (arith, a, o)) (omega (arith, k, e)))))
     (λ o. not_later l.at t f h o)
-    (split f h)
+    (cases_lt f h)

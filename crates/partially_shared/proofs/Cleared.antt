@@ -12,7 +12,7 @@ use lib.Seq.{get_or-set_same, get_or-set_other, take-set-le, set-get_or, ext_get
 use lib.Ieee.{Float}
 use Rattle.laws.specs.Lists.{only_if, each, up_from}
 use Rattle.laws.specs.Merging.{region}
-use Rattle.laws.proofs.Tests.{tested, split}
+use Rattle.std.proofs.lemmas.Bool.{cases_Bool, cases_lt}
 use Rattle.laws.proofs.Stores.{get_or-region, length-region, region_set_before}
 use Rattle.findings.specs.Findings.{Finding}
 use Rattle.index.specs.Faces.{input}
@@ -72,9 +72,9 @@ clearing_next l w v a b sp low p = record {
     behind = region_set_before l.last l.at.nodes v (l.marks + b) 0 (omega (arith, sp.others_at, sp.last_at, low));
     long = length-set v (l.marks + b) 0;
   };
-  cleared = λ i h k j. go i h k (split i b) j;
+  cleared = λ i h k j. go i h k (cases_lt i b) j;
   same = λ i h k. (mark i (omega (arith, k)) ∙ (p.same i h (omega (arith, k))).0, other i ∙ (p.same i h (omega (arith, k))).1);
-  still = λ i h e. zero i (p.still i h e) (tested (eqb b i));
+  still = λ i h e. zero i (p.still i h e) (cases_Bool (eqb b i));
 }
   where
     mark : (i : ℕ) → b < i → get_or (set v (l.marks + b) 0) (l.marks + i) 0 ≡ get_or v (l.marks + i) 0
@@ -91,14 +91,14 @@ clearing_next l w v a b sp low p = record {
     zero i e (inr q) = get_or-set_other v (l.marks + b) (l.marks + i) 0 0 (λ d. eqb-false b i q (omega (arith, d))) ∙ e
 
     go : (i : ℕ) → i < l.at.cell_count → a ≤ i → (i < b) ⊎ (b ≤ i) → i < b + 1 → get_or (set v (l.marks + b) 0) (l.marks + i) 0 ≡ 0
-    go i h k (inl q) j = zero i (p.cleared i h k q) (tested (eqb b i))
+    go i h k (inl q) j = zero i (p.cleared i h k q) (cases_Bool (eqb b i))
     go i h k (inr q) j = let e : i ≡ b = omega (arith, q, j) in ap (λ (x : ℕ). get_or (set v (l.marks + b) 0) (l.marks + x) 0) e ∙ own
 
 -- all marks are zero afterwards
 pub all_cleared : (l : Layout) (t w v : List ℕ) (hits : List (ℕ × ℕ)) (r : Range) → Spaced l (length w) → Marked l t hits w r → Cleared l w r.lo r.hi v → region l.marks l.at.cell_count v ≡ replicate l.at.cell_count 0
 all_cleared l t w v hits r sp m p =
     ext_get_or 0 (region l.marks l.at.cell_count v) (replicate l.at.cell_count 0) (long ∙ sym (length-replicate l.at.cell_count 0))
-    (λ i h. let k : i < l.at.cell_count = omega (arith, h, long) in get_or-region l.marks l.at.cell_count v i 0 k ∙ zero i k (tested (eqb (get_or w (l.marks + i) 0) 0)) ∙ sym (get_or-replicate l.at.cell_count i 0 0 k))
+    (λ i h. let k : i < l.at.cell_count = omega (arith, h, long) in get_or-region l.marks l.at.cell_count v i 0 k ∙ zero i k (cases_Bool (eqb (get_or w (l.marks + i) 0) 0)) ∙ sym (get_or-replicate l.at.cell_count i 0 0 k))
   where
     long : length (region l.marks l.at.cell_count v) ≡ l.at.cell_count
     long = length-region l.marks l.at.cell_count v (omega (arith, p.beside.long, sp.others_at, sp.last_at, sp.pairs_at, sp.spare_at, sp.ends))

@@ -11,7 +11,7 @@ use lib.ListN.{get_or, set, drop}
 use lib.Seq.{drop-set-lt}
 use lib.Ieee.{Float}
 use Rattle.laws.specs.Lists.{each, up_from}
-use Rattle.laws.proofs.Tests.{tested, split}
+use Rattle.std.proofs.lemmas.Bool.{cases_Bool, cases_lt}
 use Rattle.laws.proofs.ListLaws.{each_append, up_from_append}
 use Rattle.snap.proofs.Parts.{read_from}
 use Rattle.findings.specs.Findings.{Finding}
@@ -45,7 +45,7 @@ telling_skip : (c : List Float) (l : Layout) (t w : List ℕ) (i a : ℕ) (s : S
 telling_skip c l t w i a s v q b d le zero p = record {
   clearing = record {
     beside = p.clearing.beside;
-    cleared = λ x h y z. go x h y z (split x b);
+    cleared = λ x h y z. go x h y z (cases_lt x b);
     same = λ x h y. p.clearing.same x h (omega (arith, y, le));
     still = p.clearing.still;
   };
@@ -132,7 +132,7 @@ module _ (c : List Float) (l : Layout) (w : List ℕ) (i count : ℕ) (s : Sink)
 
       -- no cell before it is marked
       between : (x : ℕ) → next ≤ x → x < b → get_or w (l.marks + x) 0 ≡ 0
-      between x q h = go (tested (eqb (get_or w (l.marks + x) 0) 0))
+      between x q h = go (cases_Bool (eqb (get_or w (l.marks + x) 0) 0))
         where
           go : (eqb (get_or w (l.marks + x) 0) 0 ≡ true) ⊎ (eqb (get_or w (l.marks + x) 0) 0 ≡ false) → get_or w (l.marks + x) 0 ≡ 0
           go (inl e) = eqb-true (get_or w (l.marks + x) 0) 0 e
@@ -161,7 +161,7 @@ module _ (c : List Float) (l : Layout) (w : List ℕ) (i count : ℕ) (s : Sink)
         nothing = let e : count - j ≡ 0 = omega (arith, done) in ap (λ (y : ℕ). pairs_at (l.pairs + 2 * j) y w) e
 
         none : (x : ℕ) → next ≤ x → x < l.at.cell_count → get_or w (l.marks + x) 0 ≡ 0
-        none x q h = go (tested (eqb (get_or w (l.marks + x) 0) 0))
+        none x q h = go (cases_Bool (eqb (get_or w (l.marks + x) 0) 0))
           where
             go : (eqb (get_or w (l.marks + x) 0) 0 ≡ true) ⊎ (eqb (get_or w (l.marks + x) 0) 0 ≡ false) → get_or w (l.marks + x) 0 ≡ 0
             go (inl e) = eqb-true (get_or w (l.marks + x) 0) 0 e

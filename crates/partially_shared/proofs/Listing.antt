@@ -11,7 +11,8 @@ use Rattle.std.specs.Prelude.{Option, Some, None}
 use lib.ListN.{length, get_or, set, drop, length-set}
 use lib.Seq.{get_or-set_same, get_or-set_other, take-set-le}
 use Rattle.laws.specs.Lists.{insert, sort}
-use Rattle.laws.proofs.Tests.{tested, clash}
+use Rattle.laws.proofs.Tests.{clash}
+use Rattle.std.proofs.lemmas.Bool.{cases_Bool}
 use Rattle.laws.proofs.Stores.{region_set_after}
 use Rattle.findings.specs.Rules.{pair_le}
 use Rattle.pair_sort.specs.Pairs.{pairs_at}
@@ -44,7 +45,7 @@ has_parts b (p ∷ ps) qs (inr h) = go (has_parts b ps qs h)
 
 has_insert : (b : ℕ) (p : ℕ × ℕ) (ps : List (ℕ × ℕ)) → Has b (p ∷ ps) → Has b (insert pair_le p ps)
 has_insert b p [] h = h
-has_insert b p (q ∷ ps) h = go (has_insert b p ps) (tested (pair_le p q))
+has_insert b p (q ∷ ps) h = go (has_insert b p ps) (cases_Bool (pair_le p q))
   where
     on : (Has b (p ∷ ps) → Has b (insert pair_le p ps)) → (p.0 ≡ b) ⊎ Has b (q ∷ ps) → Has b (q ∷ insert pair_le p ps)
     on f (inl k) = inr (f (inl k))
@@ -57,7 +58,7 @@ has_insert b p (q ∷ ps) h = go (has_insert b p ps) (tested (pair_le p q))
 
 insert_has : (b : ℕ) (p : ℕ × ℕ) (ps : List (ℕ × ℕ)) → Has b (insert pair_le p ps) → Has b (p ∷ ps)
 insert_has b p [] h = h
-insert_has b p (q ∷ ps) h = go (insert_has b p ps) (tested (pair_le p q))
+insert_has b p (q ∷ ps) h = go (insert_has b p ps) (cases_Bool (pair_le p q))
   where
     back : (p.0 ≡ b) ⊎ Has b ps → (p.0 ≡ b) ⊎ Has b (q ∷ ps)
     back (inl j) = inl j
@@ -88,7 +89,7 @@ sort_has b (p ∷ ps) h = go (sort_has b ps) (insert_has b p (sort pair_le ps) h
 
 -- the order is by the first words
 le_first : (p q : ℕ × ℕ) → pair_le p q ≡ true → p.0 ≤ q.0
-le_first p q e = go (tested (ltb q.0 p.0))
+le_first p q e = go (cases_Bool (ltb q.0 p.0))
   where
     go : (ltb q.0 p.0 ≡ true) ⊎ (ltb q.0 p.0 ≡ false) → p.0 ≤ q.0
     go (inl k) = clash e (le_more p q (ltb-true q.0 p.0 k))
@@ -99,7 +100,7 @@ not_le_first p q e = le_first q p (pair_total.total p q e)
 
 rising_insert : (p : ℕ × ℕ) (ps : List (ℕ × ℕ)) → Rising ps → Rising (insert pair_le p ps)
 rising_insert p [] r = (λ b h. absurd h, tt)
-rising_insert p (q ∷ ps) r = go (rising_insert p ps r.1) (tested (pair_le p q))
+rising_insert p (q ∷ ps) r = go (rising_insert p ps r.1) (cases_Bool (pair_le p q))
   where
     before : p.0 ≤ q.0 → (b : ℕ) → (q.0 ≡ b) ⊎ Has b ps → p.0 ≤ b
     before k b (inl h) = omega (arith, k, h)
@@ -175,7 +176,7 @@ pub listed_more : (l : Layout) (c : ℕ) (n : Option ℕ) (w v : List ℕ) → S
     → ListedIf l w n → ListedIf l (list_with l c n v) (list_count l n)
 unfolding list_count list_with
 listed_more l c None w v sp long low same other p = tt
-listed_more l c (Some n) w v sp long low same other p = go (tested (ltb n l.words))
+listed_more l c (Some n) w v sp long low same other p = go (cases_Bool (ltb n l.words))
   where
     u : List ℕ
     u = set v (l.pairs + 2 * n) c
@@ -197,7 +198,7 @@ listed_more l c (Some n) w v sp long low same other p = go (tested (ltb n l.word
     more h =
         record {
           known = λ b a. low_one b (has_parts b ps ((c, get_or u (l.pairs + 2 * n + 1) 0) ∷ []) (subst (Has b) (grown h) a));
-          there = λ b a m. subst (Has b) (sym (grown h)) (has_append b ps ((c, get_or u (l.pairs + 2 * n + 1) 0) ∷ []) (has_one b a m (tested (eqb c b))));
+          there = λ b a m. subst (Has b) (sym (grown h)) (has_append b ps ((c, get_or u (l.pairs + 2 * n + 1) 0) ∷ []) (has_one b a m (cases_Bool (eqb c b))));
         }
       where
         low_one : (b : ℕ) → Has b ps ⊎ Has b ((c, get_or u (l.pairs + 2 * n + 1) 0) ∷ []) → b < l.at.cell_count

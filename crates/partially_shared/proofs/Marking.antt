@@ -12,7 +12,8 @@ use lib.ListN.{length, get_or, set, drop, length-set}
 use lib.Seq.{get_or-set_same, get_or-set_other, take-set-le, drop-set-lt}
 use lib.Ieee.{Float}
 use Rattle.laws.specs.Lists.{only_if, first, keep}
-use Rattle.laws.proofs.Tests.{tested, clash, eqb_self}
+use Rattle.laws.proofs.Tests.{clash, eqb_self}
+use Rattle.std.proofs.lemmas.Bool.{cases_Bool}
 use Rattle.laws.proofs.ListLaws.{keep_append}
 use Rattle.laws.proofs.Stores.{region_set_before}
 use Rattle.findings.specs.Findings.{Rules}
@@ -79,7 +80,7 @@ module _ (R : Rules) (l : Layout) (t : List ℕ) (f g : ℕ) where
 
   -- in another cell than b nothing
   elsewhere : (b : ℕ) → eqb (cell_of l.at t g) b ≡ false → keep (of b) (passing R l t f (g ∷ [])) ≡ []
-  elsewhere b e = go (tested (spans_at R l t f g))
+  elsewhere b e = go (cases_Bool (spans_at R l t f g))
     where
       go : (spans_at R l t f g ≡ true) ⊎ (spans_at R l t f g ≡ false) → keep (of b) (passing R l t f (g ∷ [])) ≡ []
       go (inl s) = ap (keep (of b)) (adds s) ∙ ap (λ (x : Bool). only_if x ((f, g) ∷ []) ++ []) e
@@ -119,7 +120,7 @@ module _ (R : Rules) (l : Layout) (t : List ℕ) (f g : ℕ) where
     marked_kept w r p low h = record { marks = mark; within = p.within; listed = p.listed }
       where
         mark : (b : ℕ) → b < l.at.cell_count → MarkIs (get_or w (l.marks + b) 0) (get_or w (l.others + b) 0) (hit_of l t b (H ++ passing R l t f (g ∷ [])))
-        mark b k = go (tested (eqb (cell_of l.at t g) b))
+        mark b k = go (cases_Bool (eqb (cell_of l.at t g) b))
           where
             go : (eqb (cell_of l.at t g) b ≡ true) ⊎ (eqb (cell_of l.at t g) b ≡ false) → MarkIs (get_or w (l.marks + b) 0) (get_or w (l.others + b) 0) (hit_of l t b (H ++ passing R l t f (g ∷ [])))
             go (inl e) =
@@ -179,7 +180,7 @@ module _ (R : Rules) (l : Layout) (t : List ℕ) (f g : ℕ) where
           behind = drop-set-lt l.pairs (set w (l.marks + c) (f + 1)) (l.others + c) g (omega (arith, low, sp.last_at, sp.pairs_at)) ∙ drop-set-lt l.pairs w (l.marks + c) (f + 1) (omega (arith, low, sp.others_at, sp.last_at, sp.pairs_at))
 
           mark : (b : ℕ) → b < l.at.cell_count → MarkIs (get_or v (l.marks + b) 0) (get_or v (l.others + b) 0) (hit_of l t b (H ++ passing R l t f (g ∷ [])))
-          mark b k = go (tested (eqb (cell_of l.at t g) b))
+          mark b k = go (cases_Bool (eqb (cell_of l.at t g) b))
             where
               go : (eqb (cell_of l.at t g) b ≡ true) ⊎ (eqb (cell_of l.at t g) b ≡ false) → MarkIs (get_or v (l.marks + b) 0) (get_or v (l.others + b) 0) (hit_of l t b (H ++ passing R l t f (g ∷ [])))
               go (inl e) =
@@ -194,7 +195,7 @@ module _ (R : Rules) (l : Layout) (t : List ℕ) (f g : ℕ) where
                   (subst (λ (x : ℕ). MarkIs (get_or w (l.marks + b) 0) x (hit_of l t b H)) (sym (other_other b k n)) (p.marks b k)))
 
           inside : (b : ℕ) → b < l.at.cell_count → get_or v (l.marks + b) 0 ≢ 0 → (s.lo ≤ b) × (b < s.hi)
-          inside b k m = go (tested (eqb c b))
+          inside b k m = go (cases_Bool (eqb c b))
             where
               go : (eqb c b ≡ true) ⊎ (eqb c b ≡ false) → (s.lo ≤ b) × (b < s.hi)
               go (inl x) = let j : c ≡ b = eqb-true c b x in (omega (arith, lo, j), omega (arith, hi, j))

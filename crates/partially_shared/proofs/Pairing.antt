@@ -8,7 +8,8 @@ use native.Mathlib.Omega.{arith}
 use borrow.Author.Tests.{leb-true, ltb-true, eqb-true, lt-ltb, le-leb, ne_eqb}
 use lib.Dec.{leb, ltb, eqb}
 use Rattle.laws.specs.Lists.{only_if, first, each, keep, elem, up_from}
-use Rattle.laws.proofs.Tests.{tested, both_ways, and_parts, eqb_self}
+use Rattle.laws.proofs.Tests.{both_ways, eqb_self}
+use Rattle.std.proofs.lemmas.Bool.{and_parts, cases_Bool}
 use Rattle.laws.proofs.ListLaws.{each_append, each_ext, each_map, map_each, map-only_if, keep-map, each_agree}
 use Rattle.laws.proofs.Ascending.{asc_ext, asc_keep, asc_up_from, elem-keep, elem-up_from}
 use Rattle.mesh.specs.Rings.{Face, node_set}
@@ -182,7 +183,7 @@ module _ (R : Rules) (l : Layout) (t : List ℕ) (F : Faced l t) where
     -- the pairs that the search gives of b are these, where no cell is a bow-tie
     pub hit_b : hit_of l t b (cell_hits R l t c) ≡ only_if both (first meet_nums)
     unfolding hit_of cell_hits face_hits passing
-    hit_b = ap first (each-each (λ (h : ℕ × ℕ). only_if (eqb (cell_of l.at t h.1) b) (h ∷ [])) (face_hits R l t) (faces_from c) ∙ each_agree one two (first_of l t c) (first_of l t (c + 1) - first_of l t c) row) ∙ ends (tested both)
+    hit_b = ap first (each-each (λ (h : ℕ × ℕ). only_if (eqb (cell_of l.at t h.1) b) (h ∷ [])) (face_hits R l t) (faces_from c) ∙ each_agree one two (first_of l t c) (first_of l t (c + 1) - first_of l t c) row) ∙ ends (cases_Bool both)
       where
         one : ℕ → List (ℕ × ℕ)
         one f = keep (λ (h : ℕ × ℕ). eqb (cell_of l.at t h.1) b) (map (λ g. (f, g)) (keep (spans_at R l t f) (candidates l.at t f)))

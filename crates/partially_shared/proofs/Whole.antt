@@ -9,8 +9,9 @@ use native.Mathlib.Nat.{zero-add}
 use borrow.Author.Tests.{ltb-true, eqb-true, eqb-false, ne_eqb, not-true}
 use lib.Dec.{ltb, eqb}
 use lib.ListN.{get_or}
-use Rattle.laws.specs.Lists.{only_if, first, each, keep, up_from}
-use Rattle.laws.proofs.Tests.{tested, and_parts, split}
+use Rattle.laws.specs.Lists.{only_if, first, each, keep, up_from, All}
+use Rattle.laws.proofs.Holding.{all_append}
+use Rattle.std.proofs.lemmas.Bool.{and_parts, cases_Bool, cases_lt}
 use Rattle.laws.proofs.ListLaws.{each_append, each_agree, up_from_append}
 use Rattle.findings.specs.Findings.{Rules, Finding, partly}
 use Rattle.index.specs.Faces.{cell_of, bow_of, nodes_of}
@@ -27,34 +28,26 @@ use Rattle.partially_shared.proofs.Pairing.{common_is, pairs_b}
 -- ---- what holds of all
 
 module _ {A : Type 0} (P : A → Type 0) where
-  abbrev pub All : List A → Type 0
-  All [] = Unit {0}
-  All (x ∷ l) = P x × All l
-
-  all_append : (a b : List A) → All a → All b → All (a ++ b)
-  all_append [] b p q = q
-  all_append (x ∷ a) b p q = (p.0, all_append a b p.1 q)
-
   -- of a range, where it holds at each place
-  all_each : (h : ℕ → List A) (a n : ℕ) → ((i : ℕ) → a ≤ i → i < a + n → All (h i)) → All (each h (up_from a n))
+  all_each : (h : ℕ → List A) (a n : ℕ) → ((i : ℕ) → a ≤ i → i < a + n → All P (h i)) → All P (each h (up_from a n))
   all_each h a zero p = tt
-  all_each h a (suc n) p = all_append (h a) (each h (up_from (suc a) n)) (p a (omega arith) (omega arith)) (all_each h (suc a) n (λ i x y. p i (omega (arith, x)) (omega (arith, y))))
+  all_each h a (suc n) p = all_append P (h a) (each h (up_from (suc a) n)) (p a (omega arith) (omega arith)) (all_each h (suc a) n (λ i x y. p i (omega (arith, x)) (omega (arith, y))))
 
   -- of those kept
-  all_keep : (q : A → Bool) (l : List A) → All l → All (keep q l)
+  all_keep : (q : A → Bool) (l : List A) → All P l → All P (keep q l)
   all_keep q [] p = tt
-  all_keep q (x ∷ l) p = all_append (only_if (q x) (x ∷ [])) (keep q l) (go (q x)) (all_keep q l p.1)
+  all_keep q (x ∷ l) p = all_append P (only_if (q x) (x ∷ [])) (keep q l) (go (q x)) (all_keep q l p.1)
     where
-      go : (b : Bool) → All (only_if b (x ∷ []))
+      go : (b : Bool) → All P (only_if b (x ∷ []))
       go true = (p.0, tt)
       go false = tt
 
-  all_first : (l : List A) → All l → All (first l)
+  all_first : (l : List A) → All P l → All P (first l)
   all_first [] p = tt
   all_first (x ∷ l) p = (p.0, tt)
 
   -- of none
-  all_none : (q : A → Bool) (l : List A) → ((x : A) → P x → q x ≡ false) → All l → keep q l ≡ []
+  all_none : (q : A → Bool) (l : List A) → ((x : A) → P x → q x ≡ false) → All P l → keep q l ≡ []
   all_none q [] h p = refl
   all_none q (x ∷ l) h p = ap (λ (b : Bool). only_if b (x ∷ []) ++ keep q l) (h x p.0) ∙ all_none q l h p.1
 
@@ -64,7 +57,7 @@ all_map P Q h (x ∷ l) f p = (f x p.0, all_map P Q h l f p.1)
 
 -- the numbers of a range that pass a test
 all_passed : (P : ℕ → Type 0) (q : ℕ → Bool) (a n : ℕ) → ((i : ℕ) → a ≤ i → i < a + n → q i ≡ true → P i) → All P (keep q (up_from a n))
-all_passed P q a n h = all_each P (λ x. only_if (q x) (x ∷ [])) a n (λ i x y. go i x y (tested (q i)))
+all_passed P q a n h = all_each P (λ x. only_if (q x) (x ∷ [])) a n (λ i x y. go i x y (cases_Bool (q i)))
   where
     go : (i : ℕ) → a ≤ i → i < a + n → (q i ≡ true) ⊎ (q i ≡ false) → All P (only_if (q i) (i ∷ []))
     go i x y (inl e) = subst (λ (b : Bool). All P (only_if b (i ∷ []))) (sym e) (h i x y e, tt)
@@ -161,7 +154,7 @@ module _ (R : Rules) (l : Layout) (t : List ℕ) (F : Faced l t) (c : ℕ) (low 
 
     -- nothing outside the range
     out_told : (b : ℕ) → b < l.at.cell_count → (b < r.lo) ⊎ (r.hi ≤ b) → mark_tells l t w c b ≡ []
-    out_told b h o = go (tested (eqb (get_or w (l.marks + b) 0) 0))
+    out_told b h o = go (cases_Bool (eqb (get_or w (l.marks + b) 0) 0))
       where
         go : (eqb (get_or w (l.marks + b) 0) 0 ≡ true) ⊎ (eqb (get_or w (l.marks + b) 0) 0 ≡ false) → mark_tells l t w c b ≡ []
         go (inl e) = tells_none l t w c b (eqb-true (get_or w (l.marks + b) 0) 0 e)
@@ -184,12 +177,12 @@ module _ (R : Rules) (l : Layout) (t : List ℕ) (F : Faced l t) (c : ℕ) (low 
 
     -- and so do the marks of the range
     pub whole_told : r.hi ≤ l.at.cell_count → each (mark_tells l t w c) (up_from r.lo (r.hi - r.lo)) ≡ partly_cell R l t c
-    whole_told top = sym (ranged (split r.hi r.lo)) ∙ all_told
+    whole_told top = sym (ranged (cases_lt r.hi r.lo)) ∙ all_told
       where
         ranged : (r.hi < r.lo) ⊎ (r.lo ≤ r.hi) → each (mark_tells l t w c) (up_from 0 l.at.cell_count) ≡ each (mark_tells l t w c) (up_from r.lo (r.hi - r.lo))
         ranged (inl x) =
             let z : 0 ≡ r.hi - r.lo = omega (arith, x) in
-            each_none (mark_tells l t w c) 0 l.at.cell_count (λ i p q. out_told i (omega (arith, q)) (either i (split i r.lo)))
+            each_none (mark_tells l t w c) 0 l.at.cell_count (λ i p q. out_told i (omega (arith, q)) (either i (cases_lt i r.lo)))
             ∙ ap (λ (k : ℕ). each (mark_tells l t w c) (up_from r.lo k)) z
           where
             either : (i : ℕ) → (i < r.lo) ⊎ (r.lo ≤ i) → (i < r.lo) ⊎ (r.hi ≤ i)

@@ -14,7 +14,7 @@ use Rattle.laws.specs.Limits.{program_records, program_work}
 use Rattle.laws.specs.Lists.{each}
 use Rattle.laws.specs.Refusals.{Answer, refused, done, refusal, filled}
 use Rattle.laws.proofs.Tables.{refusal_first, answered_done, answered_refused}
-use Rattle.laws.proofs.Tests.{tested}
+use Rattle.std.proofs.lemmas.Bool.{cases_Bool}
 use Rattle.mesh.specs.Model.{Model}
 use Rattle.mesh.specs.Acceptance.{model_table, model_refusal, check_table, work_needed}
 use Rattle.findings.specs.Findings.{Finding}
@@ -36,7 +36,7 @@ use Rattle.program.specs.Steps.{text_of, checked_refusal, model_text, Reporting}
 -- a model that the check does not refuse is accepted
 not_refused : (m : Model) (n : ℕ) → refusal (check_table m n) ≡ 0 → model_refusal m ≡ 0
 unfolding model_refusal
-not_refused m n e = go (tested (eqb (refusal (model_table m)) 0))
+not_refused m n e = go (cases_Bool (eqb (refusal (model_table m)) 0))
   where
     rest : List (ℕ × Bool)
     rest = (11, ltb n (work_needed m)) ∷ []

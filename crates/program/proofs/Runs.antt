@@ -17,7 +17,7 @@ use Rattle.refusals.specs.declared.Refusal.{Refusal}
 use Rattle.refusals.specs.Told.{number}
 use Rattle.model_file.proofs.Counts.{threes, ends_as_cells}
 use Rattle.model_file.proofs.RoundTrips.{file_numbered, model_read}
-use Rattle.laws.proofs.Tests.{tested}
+use Rattle.std.proofs.lemmas.Bool.{cases_Bool}
 use Rattle.mesh.specs.Model.{Model}
 use Rattle.mesh.specs.Acceptance.{check_table, work_needed}
 use Rattle.model_file.specs.File.{records, file_table, decode, length_off}
@@ -46,7 +46,7 @@ module _ (s : List ℕ) (coords : List Float) (kinds ends words : List ℕ) (l :
 
   -- reading refuses with 1 to 3 only
   pub reads_as : read_refusal s coords kinds ends words ≡ refusal (file_table s)
-  reads_as = go (tested (eqb (refusal (file_table s)) 0))
+  reads_as = go (cases_Bool (eqb (refusal (file_table s)) 0))
     where
       go : (eqb (refusal (file_table s)) 0 ≡ true) ⊎ (eqb (refusal (file_table s)) 0 ≡ false) → read_refusal s coords kinds ends words ≡ refusal (file_table s)
       go (inl t) =

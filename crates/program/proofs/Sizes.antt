@@ -18,12 +18,8 @@ use Rattle.model_file.specs.declared.Stage.TheVariants.{Nodes}
 use Rattle.model_file.proofs.Judgement.{passed}
 use Rattle.model_file.proofs.Counts.{ends_as_cells}
 use Rattle.model_read.proofs.JudgePass.{little}
+use Rattle.model_read.proofs.Answering.{length-chop}
 use Rattle.program.specs.Running.{Lists, Memory}
-
--- so many records are cut
-chop_length : (n : ℕ) (s : List ℕ) → length (chop n s) ≡ n
-chop_length zero s = refl
-chop_length (suc n) s = ap suc (chop_length n (drop 32 s))
 
 -- what records that are not refused add is little
 record Few (rs : List (List ℕ)) : Type 0 where
@@ -48,7 +44,7 @@ pub room : (s : List ℕ) (coords kinds ends words : ℕ) → Lists coords kinds
 unfolding decode
 room s coords kinds ends words l h j =
     let rs = records s in
-    let n : length rs ≤ 1024 = omega (arith, chop_length (length s / 32) s) in
+    let n : length rs ≤ 1024 = omega (arith, length-chop (length s / 32) s) in
     let f = few Nodes rs j in
     let e = ends_as_cells rs j in
     let a : ltb coords (length (coords_of rs)) ≡ false = le-ltb coords (length (coords_of rs)) (omega (arith, f.coords, l.coords_many)) in

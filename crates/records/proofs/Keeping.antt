@@ -9,7 +9,7 @@ use lib.Seq.{sets, take_all, take-nil, take-append-le, take-append-add, length-s
 use Rattle.laws.specs.Lists.{each, up_from}
 use Rattle.laws.proofs.ListLaws.{each_append, each_ext, up_from_snoc}
 use Rattle.laws.proofs.Stores.{sets_append}
-use Rattle.laws.proofs.Tests.{split}
+use Rattle.std.proofs.lemmas.Bool.{cases_lt}
 use Rattle.geometry.specs.declared.Point.{Point}
 use Rattle.findings.specs.Findings.{Rules, Finding}
 use Rattle.findings.specs.Records.{fields_of, centre_in, record_bytes, record_of}
@@ -38,7 +38,7 @@ one_out R room n x f h = let z : 0 ≡ room - n = omega (arith, h) in ap (λ (k 
 -- xs are written behind n, and then ys
 both_in : (R : Rules) (room n : ℕ) (xs ys : List Finding) (f : List ℕ) → sets (sets f (64 * n) (first_of R (room - n) xs)) (64 * (n + length xs)) (first_of R (room - (n + length xs)) ys)
     ≡ sets f (64 * n) (first_of R (room - n) (xs ++ ys))
-both_in R room n xs ys f = go (split (room - n) (length xs))
+both_in R room n xs ys f = go (cases_lt (room - n) (length xs))
   where
     go : ((room - n) < length xs) ⊎ (length xs ≤ (room - n)) → sets (sets f (64 * n) (first_of R (room - n) xs)) (64 * (n + length xs)) (first_of R (room - (n + length xs)) ys) ≡ sets f (64 * n) (first_of R (room - n) (xs ++ ys))
     go (inl less) =

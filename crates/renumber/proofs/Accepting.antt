@@ -10,7 +10,7 @@ use lib.Dec.{leb, ltb, eqb}
 use lib.ListN.{length}
 use Rattle.laws.specs.Lists.{any}
 use Rattle.laws.specs.Limits.{cell_limit, word_limit, ring_limit, flag_limit}
-use Rattle.laws.proofs.Tests.{or_none}
+use Rattle.std.proofs.lemmas.Bool.{or_parts}
 use Rattle.geometry.specs.Coordinates.{node_count, tolerance_off}
 use Rattle.mesh.specs.Model.{Model, Raw, TET4, HEX8, WEDGE6, PHED, ascending}
 use Rattle.mesh.specs.Rings.{separator, runs, ring_words}
@@ -64,8 +64,8 @@ module _ (ρ : ℕ → ℕ) (m n : Model) (h : Renumbering ρ m n) (ok : Accepts
   right_cell : (a b : Raw) → CellGoes ρ m a b → cell_wrong K b ≡ false
   unfolding cell_wrong
   right_cell a b g =
-      let p = or_none (eqb a.kind 0 || ltb PHED a.kind) (count_wrong a || any (node_off N a.kind) a.words) g.right in
-      let q = or_none (count_wrong a) (any (node_off N a.kind) a.words) p.1 in
+      let p = or_parts (eqb a.kind 0 || ltb PHED a.kind) (count_wrong a || any (node_off N a.kind) a.words) g.right in
+      let q = or_parts (count_wrong a) (any (node_off N a.kind) a.words) p.1 in
       let k : (eqb b.kind 0 || ltb PHED b.kind) ≡ false = ap (λ (j : ℕ). eqb j 0 || ltb PHED j) (sym g.kind) ∙ p.0 in
       let c : count_wrong b ≡ false = sym (count_same a b g) ∙ q.0 in
       let w : any (node_off K b.kind) b.words ≡ false =

@@ -7,7 +7,7 @@ use mathlib.Core.List.{List, [], ◌∷◌, ◌++◌, map}
 use native.Mathlib.Omega.{arith}
 use lib.ListN.{length, get_or, take, drop}
 use Rattle.laws.specs.Lists.{only_if, any, first, last, each, walk, keep, insert, sort, add, distinct}
-use Rattle.laws.proofs.Tests.{tested, or_none}
+use Rattle.std.proofs.lemmas.Bool.{cases_Bool, or_parts}
 
 -- as long as each other, and E of the elements at each place
 pub data Alike {A B : Type 0} (E : A → B → Type 0) : List A → List B → Type 0 where
@@ -101,7 +101,7 @@ module _ {A B : Type 0} {E : A → B → Type 0} where
       → {l : List A} {m : List B} → Alike E l m → Alike F (keep p l) (keep q m)
   keep-into {F} p q h k r =
       each_alike (λ x. only_if (p x) (x ∷ [])) (λ y. only_if (q y) (y ∷ []))
-      (λ a b e. subst (λ (t : Bool). Alike F (only_if (p a) (a ∷ [])) (only_if t (b ∷ []))) (h a b e) (go a b e (tested (p a)))) r
+      (λ a b e. subst (λ (t : Bool). Alike F (only_if (p a) (a ∷ [])) (only_if t (b ∷ []))) (h a b e) (go a b e (cases_Bool (p a)))) r
     where
       go : (a : A) (b : B) → E a b → (p a ≡ true) ⊎ (p a ≡ false) → Alike F (only_if (p a) (a ∷ [])) (only_if (p a) (b ∷ []))
       go a b e (inl t) = rw t (link (k a b e t) empty)
@@ -114,7 +114,7 @@ module _ {A B : Type 0} {E : A → B → Type 0} where
   -- a test that no element passes
   pub with_none : (p : A → Bool) {l : List A} {m : List B} → any p l ≡ false → Alike E l m → Alike (λ a b. E a b × (p a ≡ false)) l m
   with_none p n empty = empty
-  with_none p n (link {a = a} {l = l} e r) = let s = or_none (p a) (any p l) n in link (e, s.0) (with_none p s.1 r)
+  with_none p n (link {a = a} {l = l} e r) = let s = or_parts (p a) (any p l) n in link (e, s.0) (with_none p s.1 r)
 
   -- what one relation says, the other says too
   pub alike_imp : {F : A → B → Type 0} → ((a : A) (b : B) → E a b → F a b) → {l : List A} {m : List B} → Alike E l m → Alike F l m

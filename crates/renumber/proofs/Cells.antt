@@ -11,7 +11,7 @@ use lib.ListN.{length, get_or}
 use lib.Ieee.{Float}
 use Rattle.laws.specs.Lists.{any}
 use Rattle.laws.specs.Merging.{AllBelow}
-use Rattle.laws.proofs.Tests.{tested, or_none}
+use Rattle.std.proofs.lemmas.Bool.{cases_Bool, or_parts}
 use Rattle.geometry.specs.declared.Point.{Point}
 use Rattle.geometry.specs.Points.{point_at, points_of, centre_of, midpoint_of}
 use Rattle.area.specs.AreaTest.{area_of, is_spans}
@@ -73,7 +73,7 @@ module _ (n : ℕ) (E : ℕ → ℕ → Type 0) (mono : (a b x y : ℕ) → E a 
   runs_alike empty = link empty empty
   runs_alike (link {a = w} {b = v} {l = ws} {m = vs} e r) =
       subst (λ (t : Bool). Alike (Alike E) (cond (eqb w separator) ([] ∷ runs ws) (onto w (runs ws))) (cond t ([] ∷ runs vs) (onto v (runs vs))))
-      (separators w v e) (go (tested (eqb w separator)) (runs_alike r))
+      (separators w v e) (go (cases_Bool (eqb w separator)) (runs_alike r))
     where
       go : (eqb w separator ≡ true) ⊎ (eqb w separator ≡ false) → Alike (Alike E) (runs ws) (runs vs)
           → Alike (Alike E) (cond (eqb w separator) ([] ∷ runs ws) (onto w (runs ws))) (cond (eqb w separator) ([] ∷ runs vs) (onto v (runs vs)))
@@ -97,7 +97,7 @@ module _ (n : ℕ) (E : ℕ → ℕ → Type 0) (mono : (a b x y : ℕ) → E a 
   fixed : (k size : ℕ) → eqb k PHED ≡ false → (rs : List (List ℕ)) → Places size rs → (ws vs : List ℕ) → Alike (Word E) ws vs
       → (not (eqb (length ws) size) || any (node_off n k) ws) ≡ false → Alike (Alike E) (at ws rs) (at vs rs)
   fixed k size s rs h ws vs g wrong =
-      let p = or_none (not (eqb (length ws) size)) (any (node_off n k) ws) wrong in
+      let p = or_parts (not (eqb (length ws) size)) (any (node_off n k) ws) wrong in
       let len : length ws ≡ size = eqb-true (length ws) size (not-false (eqb (length ws) size) p.0) in
       at_alike (plain k s p.1 g) rs (subst (λ (j : ℕ). Places j rs) (sym len) h)
 
@@ -107,7 +107,7 @@ module _ (n : ℕ) (E : ℕ → ℕ → Type 0) (mono : (a b x y : ℕ) → E a 
 
   rings_of_lem : (k : ℕ) (ws vs : List ℕ) → Alike (Word E) ws vs → cell_wrong n (cell k ws) ≡ false → Alike (Alike E) (rings_of (cell k ws)) (rings_of (cell k vs))
   unfolding rings_of cell_wrong
-  rings_of_lem k ws vs g wrong = go (tested (eqb k TET4)) (tested (eqb k HEX8)) (tested (eqb k WEDGE6)) (tested (eqb k PHED))
+  rings_of_lem k ws vs g wrong = go (cases_Bool (eqb k TET4)) (cases_Bool (eqb k HEX8)) (cases_Bool (eqb k WEDGE6)) (cases_Bool (eqb k PHED))
     where
       Ringed : ℕ → Type 0
       Ringed j = cell_wrong n (cell j ws) ≡ false → Alike (Alike E) (rings_of (cell j ws)) (rings_of (cell j vs))

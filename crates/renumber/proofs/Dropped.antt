@@ -12,7 +12,7 @@ use lib.Ieee.{Float}
 use Rattle.laws.specs.Lists.{any, each, keep, elem, up_from}
 use Rattle.laws.specs.Limits.{node_limit}
 use Rattle.laws.specs.Merging.{Asc}
-use Rattle.laws.proofs.Tests.{tested, or_cases, or_none}
+use Rattle.std.proofs.lemmas.Bool.{cases_Bool, or_cases, or_parts}
 use Rattle.laws.proofs.ListLaws.{keep_le, keep-length, length-up_from}
 use Rattle.laws.proofs.Ascending.{head_in, later_in, keep_none}
 use Rattle.laws.proofs.Members.{kept_distinct}
@@ -36,7 +36,7 @@ use Rattle.renumber.proofs.Renumbered.{full_renumbered}
 -- a member's rank is below the length
 rank_within : (a : ℕ) (l : List ℕ) → elem a l ≡ true → rank l a < length l
 rank_within a [] e = absurd (false≢true e)
-rank_within a (x ∷ l) e = go (tested (ltb x a)) (or_cases (eqb a x) (elem a l) e) (rank_within a l)
+rank_within a (x ∷ l) e = go (cases_Bool (ltb x a)) (or_cases (eqb a x) (elem a l) e) (rank_within a l)
   where
     go : (ltb x a ≡ true) ⊎ (ltb x a ≡ false) → (eqb a x ≡ true) ⊎ (elem a l ≡ true) → (elem a l ≡ true → rank l a < length l)
         → rank (x ∷ l) a < suc (length l)
@@ -48,7 +48,7 @@ rank_within a (x ∷ l) e = go (tested (ltb x a)) (or_cases (eqb a x) (elem a l)
 rank_rises : (a b : ℕ) (l : List ℕ) → elem a l ≡ true → a < b → rank l a < rank l b
 rank_rises a b [] e h = absurd (false≢true e)
 rank_rises a b (x ∷ l) e h =
-    go (tested (ltb x a)) (tested (ltb x b)) (or_cases (eqb a x) (elem a l) e) (λ s. rank_rises a b l s h)
+    go (cases_Bool (ltb x a)) (cases_Bool (ltb x b)) (or_cases (eqb a x) (elem a l) e) (λ s. rank_rises a b l s h)
     (keep_le (λ u. ltb u a) (λ u. ltb u b) (λ u t. lt-ltb u b (omega (arith, ltb-true u a t))) l)
   where
     go : (ltb x a ≡ true) ⊎ (ltb x a ≡ false) → (ltb x b ≡ true) ⊎ (ltb x b ≡ false) → (eqb a x ≡ true) ⊎ (elem a l ≡ true)
@@ -92,8 +92,8 @@ three_at c (u ∷ us) (suc j) d h =
 -- a coordinate of an accepted list is accepted
 get_or_passes : (c : List Float) (i : ℕ) → any coordinate_off c ≡ false → i < length c → coordinate_off (coordinate c i) ≡ false
 get_or_passes [] i e h = absurd (omega arith)
-get_or_passes (x ∷ c) zero e h = (or_none (coordinate_off x) (any coordinate_off c) e).0
-get_or_passes (x ∷ c) (suc i) e h = get_or_passes c i (or_none (coordinate_off x) (any coordinate_off c) e).1 (omega arith)
+get_or_passes (x ∷ c) zero e h = (or_parts (coordinate_off x) (any coordinate_off c) e).0
+get_or_passes (x ∷ c) (suc i) e h = get_or_passes c i (or_parts (coordinate_off x) (any coordinate_off c) e).1 (omega arith)
 
 threes_pass : (c : List Float) (us : List ℕ) → any coordinate_off c ≡ false → ((u : ℕ) → elem u us ≡ true → u * 3 + 2 < length c)
     → any coordinate_off (each (three c) us) ≡ false
@@ -123,7 +123,7 @@ module _ (m : Model) (ok : model_refusal m ≡ 0) where
 
   not_off : count_off (length (each (three m.coords) us)) ≡ false
   not_off =
-      let p = or_none (ltb (3 * node_limit) (length m.coords)) (not (eqb (length m.coords % 3) 0)) (accepts m ok).coordinates in
+      let p = or_parts (ltb (3 * node_limit) (length m.coords)) (not (eqb (length m.coords % 3) 0)) (accepts m ok).coordinates in
       let l = length (each (three m.coords) us) in
       let k : l ≡ 3 * length us = length_threes m.coords us in
       rw (le-ltb (3 * node_limit) l (omega (arith, few_used, ltb-false (3 * node_limit) (length m.coords) p.0)), eq-eqb (l % 3) 0 (omega arith))

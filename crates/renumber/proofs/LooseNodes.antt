@@ -11,7 +11,7 @@ use lib.Dec.{eqb}
 use lib.ListN.{length, take, drop, length-append, get_or-append}
 use lib.Ieee.{Float}
 use Rattle.laws.specs.Lists.{each, elem}
-use Rattle.laws.proofs.Tests.{tested}
+use Rattle.std.proofs.lemmas.Bool.{cases_Bool}
 use Rattle.laws.proofs.ListLaws.{each_ext, any_append}
 use Rattle.floats.specs.Floats.{zero64}
 use Rattle.geometry.specs.Points.{coordinate, point_at}
@@ -41,7 +41,7 @@ own a = a
 
 words_own : (ws : List ℕ) → map (word_by own) ws ≡ ws
 words_own [] = refl
-words_own (w ∷ ws) = go (tested (eqb w separator)) (words_own ws)
+words_own (w ∷ ws) = go (cases_Bool (eqb w separator)) (words_own ws)
   where
     go : (eqb w separator ≡ true) ⊎ (eqb w separator ≡ false) → map (word_by own) ws ≡ ws → map (word_by own) (w ∷ ws) ≡ w ∷ ws
     go (inl s) ih = rw (s, ih, eqb-true w separator s)
@@ -71,7 +71,7 @@ module _ (m n : Model) (h : LooseApart m n) (e : model_refusal m ≡ 0) where
 
   -- every node keeps its welded number
   pub loose_welds : (a : ℕ) → welded_by (welds_of n) a ≡ welded_by (welds_of m) a
-  loose_welds a = go (tested (elem a (used_nodes (cells_of m))))
+  loose_welds a = go (cases_Bool (elem a (used_nodes (cells_of m))))
     where
       same : cells_of n ≡ cells_of m
       same = unfold cells_of in λ i. cells_from 0 (h.kinds i) (h.ends i) ((h.words ∙ words_own m.words) i)

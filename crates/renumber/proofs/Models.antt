@@ -11,7 +11,8 @@ use lib.ListN.{length}
 use lib.Ieee.{Float}
 use Rattle.laws.specs.Lists.{each, elem}
 use Rattle.laws.specs.Limits.{node_limit}
-use Rattle.laws.proofs.Tests.{tested, both_ways, or_none, split}
+use Rattle.laws.proofs.Tests.{both_ways}
+use Rattle.std.proofs.lemmas.Bool.{cases_Bool, cases_lt, or_parts}
 use Rattle.laws.proofs.Ascending.{head_in, later_in}
 use Rattle.laws.proofs.Members.{elem-distinct, elem_below}
 use Rattle.geometry.specs.Points.{point_at}
@@ -66,14 +67,14 @@ module _ (ρ : ℕ → ℕ) (m n : Model) (h : Renumbering ρ m n) (ok : Accepts
 
   pub new_few : K ≤ separator
   new_few =
-      let p = or_none (ltb (3 * node_limit) (length n.coords)) (not (eqb (length n.coords % 3) 0)) h.count in
+      let p = or_parts (ltb (3 * node_limit) (length n.coords)) (not (eqb (length n.coords % 3) 0)) h.count in
       omega (arith, ltb-false (3 * node_limit) (length n.coords) p.0)
 
   -- ---- nodes
 
   rises_leb : (a b : ℕ) → Used m a → Used m b → leb a b ≡ leb (ρ a) (ρ b)
   rises_leb a b u v =
-      both_ways (leb a b) (leb (ρ a) (ρ b)) (λ t. to (leb-true a b t) (split a b)) (λ t. back (leb-true (ρ a) (ρ b) t) (split b a))
+      both_ways (leb a b) (leb (ρ a) (ρ b)) (λ t. to (leb-true a b t) (cases_lt a b)) (λ t. back (leb-true (ρ a) (ρ b) t) (cases_lt b a))
     where
       to : a ≤ b → (a < b) ⊎ (b ≤ a) → leb (ρ a) (ρ b) ≡ true
       to q (inl r) = le-leb (ρ a) (ρ b) (omega (arith, h.rises a b u v r))
@@ -98,7 +99,7 @@ module _ (ρ : ℕ → ℕ) (m n : Model) (h : Renumbering ρ m n) (ok : Accepts
   -- ---- words and cells
 
   word : (w : ℕ) → elem w m.words ≡ true → Word E w (word_by ρ w)
-  word w e = go (tested (eqb w separator))
+  word w e = go (cases_Bool (eqb w separator))
     where
       go : (eqb w separator ≡ true) ⊎ (eqb w separator ≡ false) → Word E w (word_by ρ w)
       go (inl s) = inl (eqb-true w separator s, rw s)

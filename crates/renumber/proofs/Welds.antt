@@ -12,7 +12,7 @@ use lib.ListN.{length, get_or, set, length-set}
 use lib.Seq.{get_or-set_same, get_or-set_other}
 use lib.Ieee.{Float, binary64, sub, mul, lt, le, eq}
 use Rattle.laws.specs.Lists.{fold, elem, sort, up_from}
-use Rattle.laws.proofs.Tests.{tested}
+use Rattle.std.proofs.lemmas.Bool.{cases_Bool}
 use Rattle.laws.proofs.ListLaws.{length-up_from, get_or-up_from}
 use Rattle.floats.specs.Floats.{zero64}
 use Rattle.geometry.specs.Points.{point_sub, point_dot, point_at}
@@ -64,7 +64,7 @@ module _ (c d : List Float) (t : Float) (n k : ℕ) (E : ℕ → ℕ → Type 0)
 
   -- the lesser of two
   lesser : (a b x y : ℕ) → E a x → E b y → E (min a b) (min x y)
-  lesser a b x y e f = go (tested (leb a b))
+  lesser a b x y e f = go (cases_Bool (leb a b))
     where
       go : (leb a b ≡ true) ⊎ (leb a b ≡ false) → E (min a b) (min x y)
       go (inl t) =
@@ -88,7 +88,7 @@ module _ (c d : List Float) (t : Float) (n k : ℕ) (E : ℕ → ℕ → Type 0)
 
   set_mapped : {l m : List ℕ} (b y v w : ℕ) → E b y → E v w → Mapped l m → Mapped (set l b v) (set m y w)
   set_mapped {l} {m} b y v w e f M =
-      record { size = length-set l b v ∙ M.size; size' = length-set m y w ∙ M.size'; entry = λ a x g. at a x g (tested (eqb a b)) }
+      record { size = length-set l b v ∙ M.size; size' = length-set m y w ∙ M.size'; entry = λ a x g. at a x g (cases_Bool (eqb a b)) }
     where
       at : (a x : ℕ) → E a x → (eqb a b ≡ true) ⊎ (eqb a b ≡ false) → E (get_or (set l b v) a a) (get_or (set m y w) x x)
       at a x g (inl s) =

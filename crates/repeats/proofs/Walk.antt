@@ -11,7 +11,7 @@ use lib.ListN.{length, get_or, set, replicate, length-set, length-replicate, get
 use lib.Seq.{ext_get_or, get_or-set_same, get_or-set_other}
 use Rattle.laws.specs.Lists.{only_if, any, last, walk, keep}
 use Rattle.laws.specs.Merging.{AllBelow}
-use Rattle.laws.proofs.Tests.{tested, or_none}
+use Rattle.std.proofs.lemmas.Bool.{cases_Bool, or_parts}
 use Rattle.laws.proofs.ListLaws.{keep_append}
 use Rattle.findings.specs.Rules.{pair_of, repeat_at}
 use Rattle.repeats.specs.Marks.{hit, hits, mark}
@@ -37,7 +37,7 @@ mark_of (x ∷ xs) = x + 1
 -- the pair by the mark
 hit_last : (n : ℕ) (l : List ℕ) → hit n (mark_of (last l)) ≡ map (pair_of n) (keep (λ p. not (eqb p n)) (last l))
 hit_last n [] = refl
-hit_last n (x ∷ []) = go (tested (eqb x n))
+hit_last n (x ∷ []) = go (cases_Bool (eqb x n))
   where
     go : (eqb x n ≡ true) ⊎ (eqb x n ≡ false) → hit n (x + 1) ≡ map (pair_of n) (keep (λ p. not (eqb p n)) (x ∷ []))
     go (inl e) =
@@ -58,7 +58,7 @@ module _ (weld : ℕ → ℕ) (size : ℕ) (inside : (n : ℕ) → n < size → 
 
   -- one node more
   marks_more : (marks before : List ℕ) (n : ℕ) → n < size → Marks marks before → Marks (set marks (weld n) (n + 1)) (before ++ (n ∷ []))
-  marks_more marks before n h k = (length-set marks (weld n) (n + 1) ∙ k.0, λ m b. go m b (tested (eqb (weld n) m)))
+  marks_more marks before n h k = (length-set marks (weld n) (n + 1) ∙ k.0, λ m b. go m b (cases_Bool (eqb (weld n) m)))
     where
       go : (m : ℕ) → m < size → (eqb (weld n) m ≡ true) ⊎ (eqb (weld n) m ≡ false)
           → get_or (set marks (weld n) (n + 1)) m 0 ≡ mark_of (last (keep (λ p. eqb (weld p) m) (before ++ (n ∷ []))))
@@ -95,7 +95,7 @@ module _ (weld : ℕ → ℕ) where
   kept : (value : ℕ → ℕ) (marks ns : List ℕ) (m : ℕ) → any (λ n. eqb (weld n) m) ns ≡ false → get_or (mark weld value marks ns) m 0 ≡ get_or marks m 0
   kept value marks [] m e = refl
   kept value marks (n ∷ ns) m e =
-      let p = or_none (eqb (weld n) m) (any (λ n. eqb (weld n) m) ns) e in
+      let p = or_parts (eqb (weld n) m) (any (λ n. eqb (weld n) m) ns) e in
       kept value (set marks (weld n) (value n)) ns m p.1
       ∙ get_or-set_other marks (weld n) m (value n) 0 (λ f. eqb-false (weld n) m p.0 (sym f))
 
@@ -105,7 +105,7 @@ module _ (weld : ℕ → ℕ) where
       ext_get_or 0 marks (replicate size 0) (l ∙ sym (length-replicate size 0))
       (λ i b. let c : i < size = omega arith in h i c refl ∙ sym (get_or-replicate size i 0 0 c))
   cleared size marks (n ∷ ns) l h =
-      cleared size (set marks (weld n) 0) ns (length-set marks (weld n) 0 ∙ l) (λ m b e. go m b e (tested (eqb (weld n) m)))
+      cleared size (set marks (weld n) 0) ns (length-set marks (weld n) 0 ∙ l) (λ m b e. go m b e (cases_Bool (eqb (weld n) m)))
     where
       go : (m : ℕ) → m < size → any (λ n. eqb (weld n) m) ns ≡ false → (eqb (weld n) m ≡ true) ⊎ (eqb (weld n) m ≡ false) → get_or (set marks (weld n) 0) m 0 ≡ 0
       go m b e (inl s) =

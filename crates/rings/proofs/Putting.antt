@@ -13,7 +13,7 @@ use Rattle.std.proofs.lemmas.List.Elements.{All-nil, All-cons}
 use Rattle.laws.specs.Lists.{any, each}
 use Rattle.laws.proofs.ListLaws.{each_append}
 use Rattle.laws.proofs.Stores.{sets_append}
-use Rattle.laws.proofs.Tests.{or_none}
+use Rattle.std.proofs.lemmas.Bool.{or_parts}
 use Rattle.rings.specs.Put.{WordsPut}
 use Rattle.mesh.specs.Model.{Raw}
 use Rattle.mesh.specs.Rings.{rings_of}
@@ -61,14 +61,14 @@ flat_cells c cs rest is = ap (λ (l : List Raw). flat (each rings_of l)) is ∙ 
 ring_in : (n : ℕ) (r : List ℕ) → any (leb n) r ≡ false → All (λ p. p < n) r
 ring_in n [] e = All-nil (λ p. p < n)
 ring_in n (p ∷ r) e =
-    let q = or_none (leb n p) (any (leb n) r) e in
+    let q = or_parts (leb n p) (any (leb n) r) e in
     All-cons (λ p. p < n) p r (leb-false n p q.0) (ring_in n r q.1)
 
 -- and those of a table are
 table_in : (n : ℕ) (t : List (List ℕ)) → any (any (leb n)) t ≡ false → All (λ r. All (λ p. p < n) r) t
 table_in n [] e = All-nil (λ r. All (λ p. p < n) r)
 table_in n (r ∷ t) e =
-    let q = or_none (any (leb n) r) (any (any (leb n)) t) e in
+    let q = or_parts (any (leb n) r) (any (any (leb n)) t) e in
     All-cons (λ r. All (λ p. p < n) r) r t (ring_in n r q.0) (table_in n t q.1)
 
 -- the wedge's tables

@@ -14,7 +14,8 @@ use lib.Seq.{sets, length-sets, drop-drop}
 use Rattle.laws.specs.Merging.{region, Asc}
 use Rattle.laws.specs.Lists.{keep, up_from, elem}
 use Rattle.laws.proofs.Ascending.{elem-keep, asc_keep, asc_up_from, elem-up_from, keep_cong, keep_none, head_in, first_in, first_low, from_next}
-use Rattle.laws.proofs.Tests.{tested, split, eqb_self, and_parts, both_ways}
+use Rattle.laws.proofs.Tests.{eqb_self, both_ways}
+use Rattle.std.proofs.lemmas.Bool.{and_parts, cases_Bool, cases_lt}
 use Rattle.laws.proofs.ListLaws.{get_or_any}
 use Rattle.laws.proofs.Stores.{get_or_within}
 use Rattle.counting.specs.Counts.{times, below}
@@ -39,7 +40,7 @@ tail_of m (z ∷ d) y l e = cc
 
 -- a run behind its first number
 rest_tail : (x e : ℕ) (b : List ℕ) (y : ℕ) (l : List ℕ) → rest x e b ≡ y ∷ l → rest (x + 1) e b ≡ l
-rest_tail x e b y l h = ⊎_elim there none (split x e)
+rest_tail x e b y l h = ⊎_elim there none (cases_lt x e)
   where
     there : x < e → rest (x + 1) e b ≡ l
     there o =
@@ -61,7 +62,7 @@ first_ge (x ∷ l) d m h f = f x (head_in x l)
 -- what holds at each place holds of each member
 pub all_of : (P : ℕ → Type 0) (l : List ℕ) → ((i : ℕ) → i < length l → P (get_or l i 0)) → (x : ℕ) → elem x l ≡ true → P x
 all_of P [] f x e = absurd (false≢true e)
-all_of P (y ∷ l) f x e = go (all_of P l (λ i b. f (suc i) (omega arith)) x) (tested (eqb x y))
+all_of P (y ∷ l) f x e = go (all_of P l (λ i b. f (suc i) (omega arith)) x) (cases_Bool (eqb x y))
   where
     go : (elem x l ≡ true → P x) → (eqb x y ≡ true) ⊎ (eqb x y ≡ false) → P x
     go ih (inl s) = subst P (sym (eqb-true x y s)) (f 0 (omega arith))
@@ -70,7 +71,7 @@ all_of P (y ∷ l) f x e = go (all_of P l (λ i b. f (suc i) (omega arith)) x) (
 -- counting places, and counting what stands there
 count_places : (s q : ℕ → Bool) (l : List ℕ) (o : ℕ) → ((i : ℕ) → i < length l → s (o + i) ≡ q (get_or l i 0)) → length (keep s (up_from o (length l))) ≡ length (keep q l)
 count_places s q [] o f = refl
-count_places s q (x ∷ l) o f = go (count_places s q l (suc o) (λ i b. let e : suc o + i ≡ o + suc i = omega arith in ap s e ∙ f (suc i) (omega arith))) (tested (q x))
+count_places s q (x ∷ l) o f = go (count_places s q l (suc o) (λ i b. let e : suc o + i ≡ o + suc i = omega arith in ap s e ∙ f (suc i) (omega arith))) (cases_Bool (q x))
   where
     s_is : s o ≡ q x
     s_is = ap s (sym (add-zero o)) ∙ f 0 (omega arith)
@@ -160,7 +161,7 @@ module _ (p : Places) (b : List ℕ) where
     module _ (k g : ℕ) (from to : List ℕ) (r : Runs p b lo k g from to) where
       -- run i has g next where g is in its list
       stands_is : (i : ℕ) → i < k → stands b from to g i ≡ elem g (F i)
-      stands_is i h = ap (λ (l : List ℕ). eqb (get_or l 0 (g + 1)) g) (r.run i h) ∙ go (tested (elem g (F i)))
+      stands_is i h = ap (λ (l : List ℕ). eqb (get_or l 0 (g + 1)) g) (r.run i h) ∙ go (cases_Bool (elem g (F i)))
         where
           go : (elem g (F i) ≡ true) ⊎ (elem g (F i) ≡ false) → eqb (get_or (keep (leb g) (F i)) 0 (g + 1)) g ≡ elem g (F i)
           go (inl a) = ap (λ (l : List ℕ). eqb (get_or l 0 (g + 1)) g) (from_next g (F i) (asc_faces (get_or ns i 0)) a) ∙ eqb_self g ∙ sym a
@@ -205,7 +206,7 @@ module _ (p : Places) (b : List ℕ) where
         count = r.count;
         wide = length-sets from 0 (map (next b from to g) (up_from 0 k)) ∙ r.wide;
         ends = r.ends;
-        run = λ i h. ap (λ (x : ℕ). rest x (get_or to i 0) b) (moved i h) ∙ run_next i h (tested (elem g (F i))) ∙ ap (λ (j : ℕ). keep (leb j) (F i)) (sym (add-one g));
+        run = λ i h. ap (λ (x : ℕ). rest x (get_or to i 0) b) (moved i h) ∙ run_next i h (cases_Bool (elem g (F i))) ∙ ap (λ (j : ℕ). keep (leb j) (F i)) (sym (add-one g));
       }
 
       -- moved on to the lowest
@@ -224,7 +225,7 @@ module _ (p : Places) (b : List ℕ) where
             ⊎_elim
             (λ e. let f : elem h (keep (leb g) (F i)) ≡ true = elem-keep h (leb g) (F i) ∙ rw (le-leb g h a) e in
             absurd (omega (arith, at_least i d, first_low (keep (leb g) (F i)) p.faces h (asc_keep (leb g) (F i) (asc_faces (get_or ns i 0))) f)))
-            (λ e. e) (tested (elem h (F i)))
+            (λ e. e) (cases_Bool (elem h (F i)))
 
         pub skipped : (h : ℕ) → g ≤ h → h < g' → shares p t lo h ≡ false
         skipped h a c = no_share h (omega (arith, w.top)) (λ i d. gap i (omega (arith, r.count)) h a c)
@@ -236,6 +237,6 @@ module _ (p : Places) (b : List ℕ) where
           ends = r.ends;
           run = λ i h. r.run i h ∙ keep_cong (leb g) (leb g') (F i)
               (λ y f. both_ways (leb g y) (leb g' y)
-              (λ e. ⊎_elim (λ o. absurd (false≢true (sym (gap i h y (leb-true g y e) o) ∙ f))) (λ o. le-leb g' y o) (split y g'))
+              (λ e. ⊎_elim (λ o. absurd (false≢true (sym (gap i h y (leb-true g y e) o) ∙ f))) (λ o. le-leb g' y o) (cases_lt y g'))
               (λ e. le-leb g y (omega (arith, leb-true g' y e, no_lower))));
         }

@@ -8,7 +8,7 @@ use borrow.Author.Tests.{ltb-true, eq-eqb, ne_eqb}
 use lib.Dec.{leb, ltb, eqb}
 use lib.ListN.{length, get_or, length-map}
 use Rattle.laws.specs.Lists.{any, keep, elem, up_from, sum, pairs_of, triples_of}
-use Rattle.laws.proofs.Tests.{and_parts}
+use Rattle.std.proofs.lemmas.Bool.{and_parts}
 use Rattle.laws.proofs.ListLaws.{keep-map, length-up_from}
 use Rattle.laws.proofs.Ascending.{keep_cong, elem-up_from}
 use Rattle.mesh.specs.Model.{Model, Raw, cells_of}

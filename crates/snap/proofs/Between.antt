@@ -9,7 +9,8 @@ use native.Mathlib.Omega.{arith}
 use lib.Ieee.{Float, binary64, lt, mul}
 use lib.ListN.{length, get_or, take}
 use lib.Seq.{slice}
-use Rattle.laws.proofs.Tests.{tested, clash}
+use Rattle.laws.proofs.Tests.{clash}
+use Rattle.std.proofs.lemmas.Bool.{cases_Bool}
 use Rattle.floats.specs.Floats.{is_finite}
 use Rattle.geometry.specs.declared.Point.{Point}
 use Rattle.geometry.specs.Points.{point_at, point_sub, point_dot}
@@ -27,7 +28,7 @@ use Rattle.snap.proofs.Groups.{step_pass}
 
 -- what stands first is not above
 not_above : (x y : Float) (r : Bool) → is_finite x ≡ true → is_finite y ≡ true → or_else x y r ≡ true → lt y x ≡ false
-not_above x y r p q e = go (tested (lt x y)) (tested (lt y x))
+not_above x y r p q e = go (cases_Bool (lt x y)) (cases_Bool (lt y x))
   where
     go : (lt x y ≡ true) ⊎ (lt x y ≡ false) → (lt y x ≡ true) ⊎ (lt y x ≡ false) → lt y x ≡ false
     go (inl a) b = lt_asym x y p q a
@@ -40,7 +41,7 @@ then_by x y r a b e = simp (a, b) at e
 
 -- all from b to m are apart from a
 between : (l a b k m : Float) → is_finite a ≡ true → is_finite b ≡ true → is_finite k ≡ true → is_finite m ≡ true → lt k b ≡ false → lt m k ≡ false → outside_of l a b m ≡ true → apart_by l a k ≡ true
-between l a b k m fa fb fk fm u v e = go (tested (lt a b)) (tested (lt m a))
+between l a b k m fa fb fk fm u v e = go (cases_Bool (lt a b)) (cases_Bool (lt m a))
   where
     go : (lt a b ≡ true) ⊎ (lt a b ≡ false) → (lt m a ≡ true) ⊎ (lt m a ≡ false) → apart_by l a k ≡ true
     go (inl s) t = gap_up l a b k fa fb fk (lt_asym a b fa fb s) u (simp s at e)
@@ -55,7 +56,7 @@ Finite p = (is_finite p.x ≡ true) × (is_finite p.y ≡ true) × (is_finite p.
 -- a point between b and m is neither too far nor taken
 points_between : (t : Float) (a b k m : Point) (r s : Bool) → Finite a → Finite b → Finite k → Finite m → points_before b k r ≡ true → points_before k m s ≡ true → far_points t a b ≡ false → passed_of (mul binary64 t t) a b m ≡ true → (far_points t a k ≡ false) × (near_points t a k ≡ false)
 unfolding point_sub point_dot
-points_between t a b k m r s fa fb fk fm h i f p = go (tested (lt b.x m.x))
+points_between t a b k m r s fa fb fk fm h i f p = go (cases_Bool (lt b.x m.x))
   where
     l : Float
     l = mul binary64 t t
@@ -86,7 +87,7 @@ points_between t a b k m r s fa fb fk fm h i f p = go (tested (lt b.x m.x))
         let h' = then_by b.x k.x _ xb xk h in
         let i' = then_by k.x m.x _ (lt_neg k.x b.x m.x fk.0 fb.0 fm.0 xk e) xm i in (
           sub_under t k.x b.x a.x fk.0 fb.0 fa.0 xb f,
-          by_y e (not_above b.y k.y _ fb.1 fk.1 h') (not_above k.y m.y _ fk.1 fm.1 i') h' i' (tested (outside_of l a.y b.y m.y)) (tested (lt b.y m.y)),
+          by_y e (not_above b.y k.y _ fb.1 fk.1 h') (not_above k.y m.y _ fk.1 fm.1 i') h' i' (cases_Bool (outside_of l a.y b.y m.y)) (cases_Bool (lt b.y m.y)),
         )
 
 -- ---- nodes

@@ -10,7 +10,7 @@ use lib.Ieee.{Float}
 use lib.ListN.{length, get_or, set, length-set}
 use lib.Seq.{slice, slice-cons}
 use Rattle.laws.specs.Lists.{only_if, fold, elem}
-use Rattle.laws.proofs.Tests.{tested}
+use Rattle.std.proofs.lemmas.Bool.{cases_Bool}
 use Rattle.snap.specs.Weld.{far_of, near_of, takes, groups, spread, give, least}
 use Rattle.laws.specs.Merging.{AllBelow}
 use Rattle.snap.proofs.Parts.{slice_none}
@@ -37,7 +37,7 @@ module _ (c : List Float) (t : Float) (p : ℕ) (taken : ℕ → Bool) (l : List
 
   -- another is passed by, taken or not
   pub step_pass : far_of c t p (get_or l j 0) ≡ false → near_of c t p (get_or l j 0) ≡ false → takes c t p taken (slice j e l) ≡ takes c t p taken (slice (j + 1) e l)
-  step_pass f n = ⊎_elim step_skip (λ (g : taken (get_or l j 0) ≡ false). next ∙ rw (g, f, n)) (tested (taken (get_or l j 0)))
+  step_pass f n = ⊎_elim step_skip (λ (g : taken (get_or l j 0) ≡ false). next ∙ rw (g, f, n)) (cases_Bool (taken (get_or l j 0)))
 
 -- of no nodes none is taken
 pub takes_none : (c : List Float) (t : Float) (p : ℕ) (taken : ℕ → Bool) (l : List ℕ) (j e : ℕ) → e ≤ j → takes c t p taken (slice j e l) ≡ []

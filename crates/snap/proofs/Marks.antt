@@ -12,7 +12,7 @@ use lib.ListN.{length, get_or, set, take, drop, replicate, length-set}
 use lib.Seq.{sets, get_or-set_same, get_or-set_other, take-set-le, take-set-lt, drop-set-lt, drop-set-add, drop-cons}
 use Rattle.laws.specs.Lists.{elem, up_from}
 use Rattle.laws.specs.Merging.{region, AllBelow}
-use Rattle.laws.proofs.Tests.{tested}
+use Rattle.std.proofs.lemmas.Bool.{cases_Bool}
 use Rattle.laws.proofs.Stores.{get_or_after}
 use Rattle.snap.specs.Weld.{give}
 use Rattle.snap.specs.Steps.{marked, put_all, number_of, numbers}
@@ -27,7 +27,7 @@ or_turn false false m = refl
 module _ (k size v : ℕ) (some : 0 < v) where
   -- a store of one mark
   marked_one : (l : List ℕ) (x n : ℕ) → n < size → k + size ≤ length l → marked k (set l (k + x) v) n ≡ (eqb n x || marked k l n)
-  marked_one l x n h b = go (tested (eqb n x))
+  marked_one l x n h b = go (cases_Bool (eqb n x))
     where
       go : (eqb n x ≡ true) ⊎ (eqb n x ≡ false) → marked k (set l (k + x) v) n ≡ (eqb n x || marked k l n)
       go (inl e) =

@@ -12,7 +12,8 @@ use lib.Ieee.{Float, nan, inf, fin, binary64, up, down, round, add, mul, lt, le,
 use lib.Ieee.Fits.{down_pos, round-fits, add-fits, mul-fits}
 use lib.Ieee.Order.{round_mono}
 use borrow.Author.Tests.{lt-ltb, le-ltb}
-use Rattle.laws.proofs.Tests.{tested, clash, split}
+use Rattle.laws.proofs.Tests.{clash}
+use Rattle.std.proofs.lemmas.Bool.{cases_Bool, cases_lt}
 use Rattle.floats.specs.Root.{units_in, counted}
 use Rattle.floats.proofs.Fields.{units_exact}
 use Rattle.floats.proofs.Monotone.{units_lt, grown, no_lower, counted_grown, top}
@@ -67,7 +68,7 @@ le_units : (x y : Float) → T (fits binary64 x) → T (fits binary64 y) → T (
 le_units x y f g c d h = ⊎_elim
     (λ (k : units_in y < units_in x). absurd (no_lower x y c (counted_grown y d) h (units_lt y x g f d c ∙ lt-ltb (units_in y) (units_in x) k)))
     (λ (k : units_in x ≤ units_in y). k)
-    (split (units_in y) (units_in x))
+    (cases_lt (units_in y) (units_in x))
 
 -- a fraction of at least v's size rounds to at least v
 reaches : (v : Float) (a c : ℕ) → T (fits binary64 v) → T (counted v) → 0 < c → T (counted (round binary64 false a c)) → units_in v * c ≤ a * 2 ^ 1074 → units_in v ≤ units_in (round binary64 false a c)
@@ -151,8 +152,8 @@ within (fin false m e) x y z g f k =
 
 -- where the second square is above tol * tol the sum is not at most tol * tol
 pub second_above : (tol x y z : Float) → lt (mul binary64 tol tol) (mul binary64 y y) ≡ true → le (squares x y z) (mul binary64 tol tol) ≡ false
-second_above tol x y z h = let l = mul binary64 tol tol in ⊎_elim (λ k. clash h (within l x y z (square_plain tol) (mul-fits binary64 tol tol) k).0) (λ k. k) (tested (le (squares x y z) l))
+second_above tol x y z h = let l = mul binary64 tol tol in ⊎_elim (λ k. clash h (within l x y z (square_plain tol) (mul-fits binary64 tol tol) k).0) (λ k. k) (cases_Bool (le (squares x y z) l))
 
 -- nor where the third is
 pub third_above : (tol x y z : Float) → lt (mul binary64 tol tol) (mul binary64 z z) ≡ true → le (squares x y z) (mul binary64 tol tol) ≡ false
-third_above tol x y z h = let l = mul binary64 tol tol in ⊎_elim (λ k. clash h (within l x y z (square_plain tol) (mul-fits binary64 tol tol) k).1) (λ k. k) (tested (le (squares x y z) l))
+third_above tol x y z h = let l = mul binary64 tol tol in ⊎_elim (λ k. clash h (within l x y z (square_plain tol) (mul-fits binary64 tol tol) k).1) (λ k. k) (cases_Bool (le (squares x y z) l))

@@ -9,7 +9,7 @@ use borrow.Author.Tests.{eqb-true, eqb-false}
 use lib.Dec.{eqb}
 use lib.ListN.{length, length-append}
 use Rattle.laws.specs.Lists.{each}
-use Rattle.laws.proofs.Tests.{tested}
+use Rattle.std.proofs.lemmas.Bool.{cases_Bool}
 use Rattle.mesh.specs.Model.{Raw}
 use Rattle.mesh.specs.Rings.{rings_of}
 use Rattle.mesh.specs.Steps.{ring_total, cell_with, WellCell, WellCells}
@@ -20,7 +20,7 @@ use Rattle.faces.proofs.Bounds.{fixed_total}
 
 -- a cell's rings have at most so many words
 rings_small : (k : ℕ) (ws : List ℕ) → WellCell (cell_with k ws) → ring_total (rings_of (cell_with k ws)) ≤ 24 + length ws
-rings_small k ws w = go (tested (eqb k 4))
+rings_small k ws w = go (cases_Bool (eqb k 4))
   where
     go : (eqb k 4 ≡ true) ⊎ (eqb k 4 ≡ false) → ring_total (rings_of (cell_with k ws)) ≤ 24 + length ws
     go (inl a) = omega (arith, ap ring_total (phed_is k ws (eqb-true k 4 a)), phed_few ws)

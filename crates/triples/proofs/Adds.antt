@@ -11,7 +11,8 @@ use lib.Seq.{sets, length-sets}
 use Rattle.laws.specs.Merging.{region, Asc}
 use Rattle.laws.specs.Lists.{elem, add}
 use Rattle.laws.proofs.Ascending.{add_least, elem-add, asc_add, head_in, later_in}
-use Rattle.laws.proofs.Tests.{tested, or_cases, or_swap}
+use Rattle.laws.proofs.Tests.{or_swap}
+use Rattle.std.proofs.lemmas.Bool.{cases_Bool, or_cases}
 use Rattle.laws.proofs.Stores.{region_same, sets_self, sets_over, length-region}
 use Rattle.index.specs.declared.Places.{Places}
 use Rattle.index.specs.Faces.{base}
@@ -110,7 +111,7 @@ faces_left p xs ys all e f x h = f x (subst (λ (l : List ℕ). elem x l ≡ tru
   where
     in_left : (xs : List ℕ) → elem x xs ≡ true → elem x (xs ++ ys) ≡ true
     in_left [] h = absurd (mathlib.Core.Bool.false≢true h)
-    in_left (y ∷ xs) h = go (in_left xs) (tested (eqb x y))
+    in_left (y ∷ xs) h = go (in_left xs) (cases_Bool (eqb x y))
       where
         go : (elem x xs ≡ true → elem x (xs ++ ys) ≡ true) → (eqb x y ≡ true) ⊎ (eqb x y ≡ false) → elem x (y ∷ (xs ++ ys)) ≡ true
         go ih (inl s) = rw s

@@ -11,7 +11,7 @@ use lib.ListN.{length, length-append, get_or}
 use Rattle.laws.specs.Lists.{any, each, keep, up_from, elem}
 use Rattle.laws.specs.Merging.{region}
 use Rattle.laws.proofs.ListLaws.{any_append, keep_append}
-use Rattle.laws.proofs.Tests.{tested, and_parts}
+use Rattle.std.proofs.lemmas.Bool.{and_parts, cases_Bool}
 use Rattle.laws.proofs.Stores.{region-add}
 use Rattle.laws.proofs.Ascending.{elem-keep, asc_keep, asc_up_from, asc_ext, elem-up_from}
 use Rattle.index.specs.declared.Places.{Places}
@@ -29,7 +29,7 @@ use Rattle.merge.proofs.RunLaws.{rest_cons}
 -- some is one or more
 any_one : (q : ℕ → Bool) (l : List ℕ) → 1 ≤ length (keep q l) → any q l ≡ true
 any_one q [] h = absurd (omega (arith, h))
-any_one q (x ∷ l) h = go (any_one q l) (tested (q x))
+any_one q (x ∷ l) h = go (any_one q l) (cases_Bool (q x))
   where
     go : (1 ≤ length (keep q l) → any q l ≡ true) → (q x ≡ true) ⊎ (q x ≡ false) → any q (x ∷ l) ≡ true
     go ih (inl a) = rw a
@@ -37,7 +37,7 @@ any_one q (x ∷ l) h = go (any_one q l) (tested (q x))
 
 -- one more keeps at most one more
 keep_cons : (q : ℕ → Bool) (x : ℕ) (l : List ℕ) → length (keep q (x ∷ l)) ≤ suc (length (keep q l))
-keep_cons q x l = go (tested (q x))
+keep_cons q x l = go (cases_Bool (q x))
   where
     go : (q x ≡ true) ⊎ (q x ≡ false) → length (keep q (x ∷ l)) ≤ suc (length (keep q l))
     go (inl a) = rw a (omega arith)
@@ -130,7 +130,7 @@ all_found p q b lo ks same covers =
     asc_ext (add_all all []) (keep (shares p (input p b) lo) (up_from 0 p.faces))
     (asc_add_all all [] tt) (asc_keep (shares p (input p b) lo) (up_from 0 p.faces) (asc_up_from 0 p.faces))
     (λ g. elem-add_all g all [] ∙ or-false (elem g all) ∙ some p q b lo g ks ∙ ap (λ (n : ℕ). S p q b lo g && (any (has p q b lo g) ks && elem g (up_from 0 n))) same
-    ∙ drop-any g (tested (S p q b lo g)) (tested (elem g (up_from 0 p.faces)))
+    ∙ drop-any g (cases_Bool (S p q b lo g)) (cases_Bool (elem g (up_from 0 p.faces)))
     ∙ sym (elem-keep g (shares p (input p b) lo) (up_from 0 p.faces)))
   where
     drop-any : (g : ℕ) → (S p q b lo g ≡ true) ⊎ (S p q b lo g ≡ false) → (elem g (up_from 0 p.faces) ≡ true) ⊎ (elem g (up_from 0 p.faces) ≡ false)

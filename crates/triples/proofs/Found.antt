@@ -10,7 +10,7 @@ use lib.Seq.{sets}
 use Rattle.laws.specs.Lists.{any, each, keep, up_from, elem}
 use Rattle.laws.specs.Merging.{region}
 use Rattle.laws.proofs.ListLaws.{any_append, each_append, keep-length}
-use Rattle.laws.proofs.Tests.{tested}
+use Rattle.std.proofs.lemmas.Bool.{cases_Bool}
 use Rattle.laws.proofs.Ascending.{keep_none}
 use Rattle.index.specs.declared.Places.{Places}
 use Rattle.index.specs.declared.by_node.Index.{Index}
@@ -129,7 +129,7 @@ pub few_sought : (p : Places) (lo : ℕ) (w : List ℕ) → Ready p lo w → len
 unfolding candidates common
 few_sought p lo w r few =
     let e : candidates p (input p (base p w)) lo ≡ [] = keep_none (shares p (input p (base p w)) lo) (up_from 0 p.faces)
-    (λ g h. not_shared g (tested (shares p (input p (base p w)) lo g))) in
+    (λ g h. not_shared g (cases_Bool (shares p (input p (base p w)) lo g))) in
     let e' : candidates p (input p w) lo ≡ [] = ap (λ (t : List ℕ). candidates p t lo) (sym (input_base p w r.below)) ∙ e in
     record { number = sym (ap length e'); filled = sym (ap (sets w p.found) e') }
   where

@@ -10,7 +10,7 @@ use lib.ListN.{length, get_or}
 use lib.Seq.{get_or-take, length-take-le}
 use Rattle.laws.specs.Lists.{keep, up_from, elem}
 use Rattle.laws.specs.Merging.{region}
-use Rattle.laws.proofs.Tests.{and_parts}
+use Rattle.std.proofs.lemmas.Bool.{and_parts}
 use Rattle.laws.proofs.Stores.{get_or-region, length-region}
 use Rattle.laws.proofs.Ascending.{elem-keep, elem-up_from}
 use Rattle.counting.specs.Counts.{times, below}

@@ -9,7 +9,8 @@ use borrow.Author.Tests.{eqb-true}
 use lib.Dec.{leb, eqb}
 use lib.ListN.{length, get_or}
 use Rattle.laws.specs.Lists.{any, keep, elem, add}
-use Rattle.laws.proofs.Tests.{tested, both_ways, or_cases, and_parts, eqb_self}
+use Rattle.laws.proofs.Tests.{both_ways, eqb_self}
+use Rattle.std.proofs.lemmas.Bool.{and_parts, cases_Bool, or_cases}
 use Rattle.laws.proofs.ListLaws.{keep-length}
 use Rattle.laws.specs.Merging.{Asc}
 use Rattle.laws.proofs.Ascending.{elem-add, elem-keep, asc_keep, asc_ext, head_in, later_in}
@@ -21,7 +22,7 @@ use Rattle.triple_keys.specs.Keys.{triple_key, keys_of}
 -- where as many are kept as there are, all are kept
 all_kept : (q : ℕ → Bool) (l : List ℕ) → length (keep q l) ≡ length l → keep q l ≡ l
 all_kept q [] e = refl
-all_kept q (x ∷ l) e = go (all_kept q l) (tested (q x))
+all_kept q (x ∷ l) e = go (all_kept q l) (cases_Bool (q x))
   where
     go : (length (keep q l) ≡ length l → keep q l ≡ l) → (q x ≡ true) ⊎ (q x ≡ false) → keep q (x ∷ l) ≡ x ∷ l
     go ih (inl t) = rw t (ap (λ (r : List ℕ). x ∷ r) (ih (let s : suc (length (keep q l)) ≡ suc (length l) = rw t at e in omega arith)))
@@ -50,7 +51,7 @@ of_three N B q a b c C e three =
 
 -- the three kept of four
 of_four : (N B : ℕ) (q : ℕ → Bool) (a b c d : ℕ) (C : List ℕ) → keep q (a ∷ b ∷ c ∷ d ∷ []) ≡ C → length C ≡ 3 → elem (key_of N B C) (keys_of N B (a ∷ b ∷ c ∷ d ∷ [])) ≡ true
-of_four N B q a b c d C e three = go (tested (q a)) (tested (q b)) (tested (q c))
+of_four N B q a b c d C e three = go (cases_Bool (q a)) (cases_Bool (q b)) (cases_Bool (q c))
   where
     K : ℕ → ℕ → ℕ → ℕ
     K = triple_key N B
@@ -135,7 +136,7 @@ share_key N B A C sa sc a c three = go (keep (λ n. elem n C) A) refl three
 
     some : (v : ℕ) (l : List ℕ) → elem v l ≡ true → elem v (keys_of N B C) ≡ true → any (λ w. elem w (keys_of N B C)) l ≡ true
     some v [] e h = absurd (false≢true e)
-    some v (w ∷ l) e h = step (some v l) (tested (eqb v w))
+    some v (w ∷ l) e h = step (some v l) (cases_Bool (eqb v w))
       where
         step : (elem v l ≡ true → elem v (keys_of N B C) ≡ true → any (λ u. elem u (keys_of N B C)) l ≡ true) → (eqb v w ≡ true) ⊎ (eqb v w ≡ false)
             → any (λ u. elem u (keys_of N B C)) (w ∷ l) ≡ true

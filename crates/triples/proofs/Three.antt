@@ -10,14 +10,14 @@ use lib.Dec.{leb, eqb}
 use lib.ListN.{length, get_or, drop, drop_of_length-le}
 use lib.Seq.{drop-cons}
 use Rattle.laws.specs.Lists.{keep, elem}
-use Rattle.laws.proofs.Tests.{tested}
+use Rattle.std.proofs.lemmas.Bool.{cases_Bool}
 use Rattle.laws.specs.Merging.{Asc}
 use Rattle.laws.proofs.Ascending.{keep_cong, keep_none, head_in, above_out}
 use Rattle.seek.specs.Candidates.{common}
 
 -- a number that differs from the first is in a list where it is in the rest
 not_first : (n x : ℕ) (l : List ℕ) → (n ≡ x → false ≡ true) → elem n (x ∷ l) ≡ elem n l
-not_first n x l d = go (tested (eqb n x))
+not_first n x l d = go (cases_Bool (eqb n x))
   where
     go : (eqb n x ≡ true) ⊎ (eqb n x ≡ false) → elem n (x ∷ l) ≡ elem n l
     go (inl s) = absurd (false≢true (d (eqb-true n x s)))
@@ -27,7 +27,7 @@ module _ (a b : ℕ) (A B : List ℕ) (up : Asc (a ∷ A)) (to : Asc (b ∷ B)) 
   -- a lower first is not common
   lower : a < b → common (a ∷ A) (b ∷ B) ≡ common A (b ∷ B)
   unfolding common
-  lower h = go (tested (elem a (b ∷ B)))
+  lower h = go (cases_Bool (elem a (b ∷ B)))
     where
       out : elem a (b ∷ B) ≡ false
       out = not_first a b B (λ e. absurd (omega (arith, h, e))) ∙ above_out a B (λ n e. omega (arith, h, to.0 n e))
@@ -39,7 +39,7 @@ module _ (a b : ℕ) (A B : List ℕ) (up : Asc (a ∷ A)) (to : Asc (b ∷ B)) 
   -- nor is a lower first of the other list
   higher : b < a → common (a ∷ A) (b ∷ B) ≡ common (a ∷ A) B
   unfolding common
-  higher h = keep_cong (λ n. elem n (b ∷ B)) (λ n. elem n B) (a ∷ A) (λ n e. not_first n b B (λ s. absurd (omega (arith, h, s, least n e (tested (eqb n a))))))
+  higher h = keep_cong (λ n. elem n (b ∷ B)) (λ n. elem n B) (a ∷ A) (λ n e. not_first n b B (λ s. absurd (omega (arith, h, s, least n e (cases_Bool (eqb n a))))))
     where
       least : (n : ℕ) → elem n (a ∷ A) ≡ true → (eqb n a ≡ true) ⊎ (eqb n a ≡ false) → a ≤ n
       least n e (inl s) = omega (arith, eqb-true n a s)

@@ -12,7 +12,7 @@ use lib.ListN.{length, get_or, drop}
 use lib.Seq.{get_or-take, length-take-le}
 use Rattle.laws.specs.Lists.{each, keep, up_from, elem}
 use Rattle.laws.proofs.ListLaws.{any_append}
-use Rattle.laws.proofs.Tests.{or_cases, and_parts}
+use Rattle.std.proofs.lemmas.Bool.{and_parts, or_cases}
 use Rattle.laws.proofs.Stores.{get_or-region}
 use Rattle.laws.proofs.Ascending.{elem-keep, elem-up_from}
 use Rattle.index.specs.declared.Places.{Places}

@@ -12,7 +12,7 @@ use lib.ListN.{length, get_or, set, drop, get_or-eq_default, get_or-append}
 use lib.Seq.{get_or-set_other}
 use lib.Ieee.{Float, eq}
 use Rattle.laws.specs.Lists.{only_if, any, elem, sort, up_from}
-use Rattle.laws.proofs.Tests.{tested, or_none, split}
+use Rattle.std.proofs.lemmas.Bool.{cases_Bool, cases_lt, or_parts}
 use Rattle.laws.proofs.ListLaws.{any_append, length-up_from, get_or-up_from, get_or_any}
 use Rattle.laws.proofs.Members.{elem-sort}
 use Rattle.std.specs.Prelude.{Ok}
@@ -42,13 +42,13 @@ module _ (a : ℕ) where
     takes_out : (n : ℕ) (p : ℕ → Bool) (l : List ℕ) → elem a l ≡ false → elem a (takes c t n p l) ≡ false
     takes_out n p [] h = refl
     takes_out n p (x ∷ l) h =
-        let s = or_none (eqb a x) (elem a l) h in
+        let s = or_parts (eqb a x) (elem a l) h in
         let r = takes_out n p l s.1 in
         out_cond (p x) (takes c t n p l) _ r (out_cond (far_of c t n x) [] _ refl (out_append (only_if (near_of c t n x) (x ∷ [])) (takes c t n p l) (out_one (near_of c t n x) x s.0) r))
 
     groups_out : (p : ℕ → Bool) (l : List ℕ) → elem a l ≡ false → any (elem a) (groups c t p l) ≡ false
     groups_out p [] h = refl
-    groups_out p (x ∷ l) h = go (tested (p x)) (or_none (eqb a x) (elem a l) h) (λ q. groups_out q l)
+    groups_out p (x ∷ l) h = go (cases_Bool (p x)) (or_parts (eqb a x) (elem a l) h) (λ q. groups_out q l)
       where
         go : (p x ≡ true) ⊎ (p x ≡ false) → (eqb a x ≡ false) × (elem a l ≡ false) → ((q : ℕ → Bool) → elem a l ≡ false → any (elem a) (groups c t q l) ≡ false) → any (elem a) (groups c t p (x ∷ l)) ≡ false
         go (inl s) q ih = rw s (ih p q.1)
@@ -57,14 +57,14 @@ module _ (a : ℕ) where
   -- nor does a group change its number
   give_out : (v d : ℕ) (g l : List ℕ) → elem a g ≡ false → get_or (give v g l) a d ≡ get_or l a d
   give_out v d [] l h = refl
-  give_out v d (x ∷ g) l h = let s = or_none (eqb a x) (elem a g) h in give_out v d g (set l x v) s.1 ∙ get_or-set_other l x a v d (eqb-false a x s.0)
+  give_out v d (x ∷ g) l h = let s = or_parts (eqb a x) (elem a g) h in give_out v d g (set l x v) s.1 ∙ get_or-set_other l x a v d (eqb-false a x s.0)
 
   spread_out : (d : ℕ) (gs : List (List ℕ)) (l : List ℕ) → any (elem a) gs ≡ false → get_or (spread gs l) a d ≡ get_or l a d
   spread_out d [] l h = refl
-  spread_out d (g ∷ gs) l h = let s = or_none (elem a g) (any (elem a) gs) h in spread_out d gs (give (least g) g l) s.1 ∙ give_out (least g) d g l s.0
+  spread_out d (g ∷ gs) l h = let s = or_parts (elem a g) (any (elem a) gs) h in spread_out d gs (give (least g) g l) s.1 ∙ give_out (least g) d g l s.0
 
   itself : (n : ℕ) → get_or (up_from 0 n) a a ≡ a
-  itself n = go (split a n)
+  itself n = go (cases_lt a n)
     where
       go : (a < n) ⊎ (n ≤ a) → get_or (up_from 0 n) a a ≡ a
       go (inl h) = get_or-up_from 0 n a a h ∙ zero-add a

@@ -14,7 +14,7 @@ use lib.ListN.{length, get_or, set, drop, replicate, length-append, length-repli
 use lib.Seq.{sets, length-sets, drop-cons}
 use Rattle.laws.specs.Lists.{only_if, keep, elem, distinct, up_from}
 use Rattle.laws.specs.Merging.{region, AllBelow}
-use Rattle.laws.proofs.Tests.{and_parts}
+use Rattle.std.proofs.lemmas.Bool.{and_parts}
 use Rattle.laws.proofs.Bounds.{below_right}
 use Rattle.laws.proofs.ListLaws.{keep_append, keep-length, length-up_from, up_from_snoc}
 use Rattle.laws.proofs.Ascending.{keep_cong, elem-up_from}

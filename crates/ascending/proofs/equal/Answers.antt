@@ -7,12 +7,12 @@ use mathlib.Core.List.{List}
 use lib.ListN.{length}
 use Rattle.laws.specs.Lists.{eql}
 use Rattle.laws.proofs.ListLaws.{eql_true}
-use Rattle.laws.proofs.Tests.{tested}
+use Rattle.std.proofs.lemmas.Bool.{cases_Bool}
 use Rattle.ascending.proofs.equal.Goals as goal
 
 -- lists of different lengths are unequal
 unlike : (a b : List ℕ) → length a ≢ length b → eql a b ≡ false
-unlike a b h = ⊎_elim (λ e. absurd (h (ap length (eql_true a b e)))) (λ e. e) (tested (eql a b))
+unlike a b h = ⊎_elim (λ e. absurd (h (ap length (eql_true a b e)))) (λ e. e) (cases_Bool (eql a b))
 
 pub returns-then-a-b : goal.returns-then-a-b
 returns-then-a-b c = sym (unlike c.args.a.now c.args.b.now c.if-a-b.true)

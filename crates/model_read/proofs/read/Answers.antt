@@ -10,7 +10,7 @@ use Rattle.model_file.specs.File.{length_off, last_of}
 use Rattle.model_file.specs.Held.{Byte}
 use Rattle.model_file.specs.Steps.{judge}
 use Rattle.model_file.specs.declared.Stage.TheVariants.{Nodes}
-use Rattle.model_file.proofs.Numbers.{all_known}
+use Rattle.laws.proofs.Holding.{all_known}
 use Rattle.refusals.specs.declared.Refusal.TheVariants.{Room}
 use Rattle.refusals.proofs.Told.{number-positive}
 use Rattle.model_read.specs.Steps.{Counted, Fitting, Filled}

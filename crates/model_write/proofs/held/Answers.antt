@@ -2,7 +2,7 @@ use mathlib.Core.Path.{sym, subst}
 use lib.Dec.{T}
 use lib.Ieee.{nan}
 use Rattle.model_file.specs.Held.{Fits}
-use Rattle.model_file.proofs.Numbers.{all_known}
+use Rattle.laws.proofs.Holding.{all_known}
 use Rattle.model_write.proofs.held.Goals as goal
 
 pub returns : goal.returns
