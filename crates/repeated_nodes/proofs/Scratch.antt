@@ -49,11 +49,7 @@ module _ (l : Layout) (w words : List ℕ) (s : Standing l w) (few : length word
   }
 
   module _ (v : List ℕ) (r : ℕ) (d : Listed words w v (scratch_of l) r) where
-    -- there is room for all pairs
-    pub pairs_in_lem : l.pairs + 2 * r ≤ length v
-    pairs_in_lem = omega (arith, s.spaced.spare_at, s.spaced.ends, few, d.few, d.size)
-
-    -- they stand behind one another
+    -- the pairs listed stand behind one another
     pub listed : region l.pairs (l.pairs + 2 * r - l.pairs) v ≡ flat (repeats_in (scratch_of l) w words)
     listed = let n : l.pairs + 2 * r - l.pairs ≡ 2 * r = omega arith in ap (λ (k : ℕ). region l.pairs k v) n ∙ d.stored
 
