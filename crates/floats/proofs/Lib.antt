@@ -11,7 +11,7 @@ pub mod Small
 pub mod Monotone
 pub mod Rounding
 pub mod Over
-pub mod Bytes
+pub mod NanPatterns
 pub mod Constants
 pub mod Signed
 pub mod Differences

@@ -62,7 +62,7 @@ down m zeros left n e l =
 
 -- what the call is of
 pub last_digit : (m zeros : ℕ) → zeros ≡ 0 → m / 4 * 4 ^ 0 * 4 + m % 4 ≡ m * 4 ^ zeros
-last_digit m zeros e = sum ∙ sym (ap (λ (x : ℕ). m * 4 ^ x) e ∙ mul-one m)
+last_digit m z e = sum ∙ sym (ap (λ (x : ℕ). m * 4 ^ x) e ∙ mul-one m)
   where
     sum : m / 4 * 1 * 4 + m % 4 ≡ m
     sum = omega arith

@@ -1,13 +1,10 @@
 // Floats: the square root of IEEE 754, the larger of two, bits and bytes.
 #![tactic(auto)]
 
-ghost use Rattle.std.specs.Prelude.{◌≡◌, ℕ, ◌+◌, ◌*◌, ◌-◌, ◌%◌, ◌^◌, ◌≤◌, ◌<◌, length};
-ghost use Rattle.std.proofs.Math.Seq.{slice};
-ghost use Rattle.std.proofs.lemmas.List.Edits.{sets};
+ghost use Rattle.std.specs.Prelude.{◌≡◌, ℕ, ◌+◌, ◌*◌, ◌-◌, ◌%◌, ◌^◌, ◌≤◌, ◌<◌};
 ghost use Rattle.std.specs.Float.{binary64};
 ghost use Rattle.std.specs.Float.Ieee.{of_bits, to_bits, lt};
-ghost use Rattle.laws.specs.Bytes.{number, bytes};
-ghost use Rattle.floats.specs.Floats.{larger_of, float_of, float_bytes};
+ghost use Rattle.floats.specs.Floats.{larger_of};
 ghost use Rattle.floats.specs.Root.{root_of_units};
 ghost use Rattle.floats.specs.Root as Spec;
 ghost use Rattle.refusals.specs.Told.{told};
@@ -15,6 +12,9 @@ ghost use Rattle.floats.specs.RootAnswer.{root_answer};
 ghost use Rattle.floats.specs.Steps.{Rest};
 
 use refusals::Refusal;
+pub use stored::{Stored, get, put};
+
+mod stored; // numbers and values in bytes
 
 // ---- the root
 
@@ -160,7 +160,7 @@ pub fn of_bits(n: u64) -> f64
 }
 
 // The pattern of any value: of the NaN, which `f64::to_bits` does not take, it is 7FF8000000000000.
-#[tactic(auto, using(crate::proofs::Bytes::nan_pattern))]
+#[tactic(auto, using(crate::proofs::NanPatterns::nan_pattern))]
 pub fn to_bits(x: f64) -> u64
     ensures { result ≡ to_bits binary64 x }
 {
@@ -168,76 +168,4 @@ pub fn to_bits(x: f64) -> u64
         return 0x7ff8_0000_0000_0000;
     }
     x.to_bits()
-}
-
-// ---- bytes, the lowest first
-
-// Two bytes from `at` on.
-pub fn le_two(s: &[u8], at: usize) -> u64
-    requires { at + 2 ≤ length s.now }
-    ensures { (result ≡ number (slice at (at + 2) s.now)) × (result < 2 ^ 16) }
-{
-    u16::from_le_bytes([s[at], s[at + 1]]) as u64
-}
-
-// Four bytes from `at` on.
-pub fn le_four(s: &[u8], at: usize) -> u64
-    requires { at + 4 ≤ length s.now }
-    ensures { (result ≡ number (slice at (at + 4) s.now)) × (result < 2 ^ 32) }
-{
-    u32::from_le_bytes([s[at], s[at + 1], s[at + 2], s[at + 3]]) as u64
-}
-
-// Eight bytes from `at` on.
-pub fn le_u64(s: &[u8], at: usize) -> u64
-    requires { at + 8 ≤ length s.now }
-    ensures { result ≡ number (slice at (at + 8) s.now) }
-{
-    u64::from_le_bytes([
-        s[at],
-        s[at + 1],
-        s[at + 2],
-        s[at + 3],
-        s[at + 4],
-        s[at + 5],
-        s[at + 6],
-        s[at + 7],
-    ])
-}
-
-// The value of eight bytes from `at` on.
-pub fn le_f64(s: &[u8], at: usize) -> f64
-    requires { at + 8 ≤ length s.now }
-    ensures { result ≡ float_of (slice at (at + 8) s.now) }
-{
-    of_bits(le_u64(s, at))
-}
-
-// A number as k bytes from `at` on; all else as before.
-#[tactic(auto, using(crate::proofs::Bytes::number_more))]
-pub fn put_bytes(out: &mut [u8], at: usize, k: usize, n: u64)
-    requires { at + k ≤ length out.old }
-    ensures { out.new ≡ sets out.old at (bytes k n) }
-{
-    let mut m = n;
-    for j in 0..k {
-        out[at + j] = (m % 256) as u8;
-        m /= 256;
-    }
-}
-
-// A number as eight bytes.
-pub fn put_u64(out: &mut [u8], at: usize, n: u64)
-    requires { at + 8 ≤ length out.old }
-    ensures { out.new ≡ sets out.old at (bytes 8 n) }
-{
-    out[at..at + 8].copy_from_slice(&n.to_le_bytes());
-}
-
-// A value as eight bytes.
-pub fn put_f64(out: &mut [u8], at: usize, x: f64)
-    requires { at + 8 ≤ length out.old }
-    ensures { out.new ≡ sets out.old at (float_bytes x) }
-{
-    put_u64(out, at, to_bits(x));
 }

@@ -1,14 +1,14 @@
 -- What reading answers, from what the passes find.
-use Prim.Native.Nat.{ℕ, zero, suc, ◌+◌, ◌*◌, ◌-◌, ◌/◌, ◌%◌, ◌≤◌, ◌<◌}
-use mathlib.Core.Path.{◌≡◌, sym, ap, ◌∙◌}
+use Prim.Native.Nat.{ℕ, zero, suc, ◌-◌, ◌/◌, ◌%◌, ◌≤◌, ◌<◌}
+use mathlib.Core.Path.{◌≡◌, refl, sym, ap, ◌∙◌}
 use mathlib.Core.Logic.{◌≢◌}
 use mathlib.Core.Bool.{Bool, true, false, not, cond, ◌||◌}
 use mathlib.Core.List.{List, [], ◌∷◌, ◌++◌}
 use native.Mathlib.Nat.{zero-add}
 use native.Mathlib.Omega.{arith}
 use lib.Dec.{eqb, ltb}
-use lib.ListN.{length, take, drop, length-drop}
-use lib.Seq.{sets, sets-eq, take_all, drop-drop, length-take-le}
+use lib.ListN.{length, get_or, drop}
+use lib.Seq.{sets, sets-eq}
 use lib.Ieee.{Float}
 use borrow.Author.Tests.{eqb-true, eqb-false, ltb-false, not-false}
 use Rattle.laws.specs.Limits.{record_limit}
@@ -32,33 +32,14 @@ use Rattle.refusals.proofs.Told.{number-positive, ok_told, err_told}
 use Rattle.model_read.specs.Steps.{short, Counted, Fitting, Filled, found_at}
 use Rattle.model_read.specs.declared.Place.{Place}
 
--- ---- the last record stands at the end
+-- the last record, by its place
+last_at : (rs : List (List ℕ)) (r : List ℕ) → last_of (r ∷ rs) ≡ get_or (r ∷ rs) (length rs) []
+last_at [] r = refl
+last_at (q ∷ rs) r = last_at rs q
 
--- of records cut
-last_chop : (n : ℕ) (s : List ℕ) → length s ≡ 32 * suc n → last_of (chop (suc n) s) ≡ drop (32 * n) s
-last_chop zero s h = take_all 32 s (omega arith)
-last_chop (suc n) s h =
-    let e : 32 + 32 * n ≡ 32 * suc n = omega arith in
-    last_chop n (drop 32 s) (length-drop 32 s ∙ omega arith) ∙ drop-drop (32 * n) 32 s ∙ ap (λ (k : ℕ). drop k s) e
-
--- of a file
-pub last_stands : (s : List ℕ) → length s % 32 ≡ 0 → 0 < length s → last_of (records s) ≡ drop (length s - 32) s
-last_stands s h k =
-    let n : length s / 32 ≡ suc (length s / 32 - 1) = omega arith in
-    let m : 32 * (length s / 32 - 1) ≡ length s - 32 = omega arith in
-    ap (λ (x : ℕ). last_of (chop x s)) n ∙ last_chop (length s / 32 - 1) s (omega arith) ∙ ap (λ (x : ℕ). drop x s) m
-
--- as the code lends it
-pub last_lent : (s : List ℕ) → length s ≢ 0 → length s % 32 ≡ 0 → take (length s - (length s - 32)) (drop (length s - 32) s) ≡ last_of (records s)
-last_lent s h k =
-    let d = length-drop (length s - 32) s in
-    take_all (length s - (length s - 32)) (drop (length s - 32) s) (omega arith) ∙ sym (last_stands s k (omega arith))
-
--- it has 32 bytes
-pub last_long : (s : List ℕ) → length s ≢ 0 → length s % 32 ≡ 0 → length (take (length s - (length s - 32)) (drop (length s - 32) s)) ≡ 32
-last_long s h k =
-    let d = length-drop (length s - 32) s in
-    length-take-le (length s - (length s - 32)) (drop (length s - 32) s) (omega arith) ∙ omega arith
+pub last_stands : (rs : List (List ℕ)) → 0 < length rs → last_of rs ≡ get_or rs (length rs - 1) []
+last_stands [] h = absurd (omega arith)
+last_stands (r ∷ rs) h = let n : length rs ≡ length (r ∷ rs) - 1 = omega arith in last_at rs r ∙ ap (λ (k : ℕ). get_or (r ∷ rs) k []) n
 
 -- what is found besides the lists
 pub found_is_lem : (s r : List ℕ) (p : Place) → r ≡ last_of (records s) → p.coords ≡ length (coords_of (records s)) → p.cells ≡ length (kinds_of (records s)) → p.words ≡ length (words_of (records s)) → found_at r p ≡ found_in (decode s)
@@ -71,7 +52,12 @@ found_is_lem s r p e a b c = λ i. record { nodes = a i / 3; cells = b i; words 
 pub record Whole (s : List ℕ) : Type 0 where
   pub some : length s ≢ 0
   pub whole : length s % 32 ≡ 0
-  pub few : length s ≤ 4194304
+  pub few : length s / 32 ≤ 131072
+
+-- so many records
+length-chop : (n : ℕ) (s : List ℕ) → length (chop n s) ≡ n
+length-chop zero s = refl
+length-chop (suc n) s = ap suc (length-chop n (drop 32 s))
 
 pub length_whole : (s : List ℕ) → length_off (length s) ≡ false → Whole s
 length_whole s h =
@@ -79,7 +65,7 @@ length_whole s h =
     let p = or_none (eqb n 0 || not (eqb (n % 32) 0)) (ltb record_limit (n / 32)) h in
     let q = or_none (eqb n 0) (not (eqb (n % 32) 0)) p.0 in
     let m = eqb-true (n % 32) 0 (not-false (eqb (n % 32) 0) q.1) in
-    record { some = eqb-false n 0 q.0; whole = m; few = omega (arith, ltb-false record_limit (n / 32) p.1) }
+    record { some = eqb-false n 0 q.0; whole = m; few = ltb-false record_limit (n / 32) p.1 }
 
 -- ---- refusals
 
@@ -96,7 +82,7 @@ module _ (s : List ℕ) (coords : List Float) (kinds ends words : List ℕ) wher
   then_four : length_off (length s) ≡ false → judge Nodes (records s) ≡ 0 → read_refusal s coords kinds ends words ≡ cond (room_off (decode s) (length coords) (length kinds) (length ends) (length words)) 4 0
   then_four h z = rw h (refusal_second (records_table Nodes (records s)) four (records_numbered Nodes (records s)) z)
 
-  module _ (p : Place) (j : Counted s p) where
+  module _ (p : Place) (j : Counted (records s) p) where
     -- the room as the code judges it
     room_is : short p (length coords) (length kinds) (length ends) (length words) ≡ room_off (decode s) (length coords) (length kinds) (length ends) (length words)
     unfolding decode
@@ -113,7 +99,7 @@ module _ (s : List ℕ) (coords : List Float) (kinds ends words : List ℕ) wher
         refused_none = then_four h j.judged ∙ ap (λ (b : Bool). cond b 4 0) (sym room_is ∙ e)
 
         -- the file fits
-        pub fitting : Fitting s (length coords) (length kinds) (length ends) (length words)
+        pub fitting : Fitting (records s) (length coords) (length kinds) (length ends) (length words)
         fitting =
             let a = ltb (length coords) p.coords in
             let b = ltb (length kinds) p.cells in
@@ -123,7 +109,7 @@ module _ (s : List ℕ) (coords : List Float) (kinds ends words : List ℕ) wher
             let v = or_none a b r.0 in
             let w = length_whole s h in
             record {
-              short = w.few;
+              short = omega (arith, length-chop (length s / 32) s, w.few);
               judged_well = j.judged;
               coords_fit = omega (arith, j.coords, ltb-false (length coords) p.coords v.0);
               kinds_fit = omega (arith, j.cells, ltb-false (length kinds) p.cells v.1);
@@ -158,7 +144,7 @@ module _ (s : List ℕ) (coords : List Float) (kinds ends words : List ℕ) (b :
 
   -- what is found, and every list filled
   pub reading_done : (coords' : List Float) (kinds' ends' words' : List ℕ) (f : Found) → f ≡ found_in (decode s) → read_refusal s coords kinds ends words ≡ 0
-      → Fitting s (length coords) (length kinds) (length ends) (length words) → Filled s coords coords' kinds kinds' ends ends' words words' → Reading s coords coords' kinds kinds' ends ends' words words' (Ok f)
+      → Fitting (records s) (length coords) (length kinds) (length ends) (length words) → Filled (records s) coords coords' kinds kinds' ends ends' words words' → Reading s coords coords' kinds kinds' ends ends' words words' (Ok f)
   unfolding decode
   reading_done coords' kinds' ends' words' f q h ok g =
       let m = read_refusal s coords kinds ends words in

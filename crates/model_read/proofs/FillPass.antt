@@ -1,11 +1,11 @@
 -- The filling pass: what holds at a place of the file, and what a record changes.
-use Prim.Native.Nat.{ℕ, ◌+◌, ◌*◌, ◌-◌, ◌≤◌, ◌<◌}
+use Prim.Native.Nat.{ℕ, ◌+◌, ◌*◌, ◌-◌, ◌≤◌}
 use mathlib.Core.Path.{◌≡◌, refl, sym, ap, ◌∙◌, subst}
 use mathlib.Core.List.{List, [], ◌∷◌, ◌++◌}
 use mathlib.Core.Bool.{Bool, true, false}
 use native.Mathlib.Nat.{add-zero}
 use native.Mathlib.Omega.{arith}
-use lib.ListN.{length, drop, length-append}
+use lib.ListN.{length, take, drop, length-append}
 use lib.Seq.{sets, length-sets}
 use Rattle.std.specs.Prelude.{Option, Some, None}
 use lib.Dec.{ltb}
@@ -14,7 +14,7 @@ use borrow.Author.Tests.{ltb-true, ltb-false, lt-ltb}
 use Rattle.laws.specs.Lists.{only_if}
 use Rattle.laws.proofs.Stores.{sets_append}
 use Rattle.model_file.specs.Records.{letter, kinds_in, words_in, ends_in, stage, misplaced, record_off}
-use Rattle.model_file.specs.File.{chop, records, kinds_of, words_of, ends_of, opens}
+use Rattle.model_file.specs.File.{kinds_of, words_of, ends_of, opens}
 use Rattle.model_file.specs.Steps.{judge, record_refusal}
 use Rattle.model_file.specs.declared.Letter.{Letter}
 use Rattle.model_file.specs.declared.Letter.TheVariants.{Node, Cell, More, Last}
@@ -22,9 +22,9 @@ use Rattle.model_file.specs.declared.Stage.{Stage}
 use Rattle.model_file.specs.declared.Stage.TheVariants.{Nodes as Begun}
 use Rattle.model_file.proofs.Judgement.{two_rows, after_last}
 pub use Rattle.model_file.proofs.Counts.{ends_as_cells}
-use Rattle.model_read.specs.Steps.{Nodes, node_coords, Room, Put, Fitting, Filled}
+use Rattle.model_read.specs.Steps.{after, Nodes, node_coords, Room, Put, Fitting, Filled}
 use Rattle.model_read.specs.declared.Place.{Place}
-use Rattle.model_read.proofs.JudgePass.{Judging, judging_step, records_are, records_end, little}
+use Rattle.model_read.proofs.JudgePass.{Judging, judging_step, little}
 use Rattle.model_read.proofs.LeadingNodes.{behind, judging_start, nodes_stored}
 
 -- ---- the ends: where the next goes, and whether a cell is open
@@ -48,28 +48,28 @@ next_end cells w ends (Some Last) r rs h = rw (h refl) (sym (sets_append ends (c
 
 -- ---- the pass
 
--- the lists so far, and the bytes that are left
-pub record Filling (s : List ℕ) (kinds₀ ends₀ words₀ kinds ends words : List ℕ) (p : Place) (rest : List ℕ) : Type 0 where
+-- the lists so far, and the records that are left
+pub record Filling (rs : List (List ℕ)) (kinds₀ ends₀ words₀ kinds ends words : List ℕ) (p : Place) (rest : List (List ℕ)) : Type 0 where
   pub st : Stage
-  pub judging : Judging s st p rest
-  pub kinds_are_lem : sets kinds p.cells (kinds_of (records rest)) ≡ sets kinds₀ 0 (kinds_of (records s))
-  pub ends_are_lem : sets ends (p.cells - 1) (ends_of (ltb 0 p.cells) p.words (records rest)) ≡ sets ends₀ 0 (ends_of false 0 (records s))
-  pub words_are : sets words p.words (words_of (records rest)) ≡ sets words₀ 0 (words_of (records s))
+  pub judging : Judging rs st p rest
+  pub kinds_are_lem : sets kinds p.cells (kinds_of rest) ≡ sets kinds₀ 0 (kinds_of rs)
+  pub ends_are_lem : sets ends (p.cells - 1) (ends_of (ltb 0 p.cells) p.words rest) ≡ sets ends₀ 0 (ends_of false 0 rs)
+  pub words_are : sets words p.words (words_of rest) ≡ sets words₀ 0 (words_of rs)
   pub kinds_long : length kinds ≡ length kinds₀
   pub ends_long : length ends ≡ length ends₀
   pub words_long : length words ≡ length words₀
 
 -- there is room for the leading nodes
-pub nodes_room : (s : List ℕ) (n coords kinds ends words : ℕ) → Fitting s coords kinds ends words → Nodes s n → 3 * n ≤ coords
-nodes_room s n coords kinds ends words ok h = omega (arith, (judging_start s n h).coords, ok.coords_fit)
+pub nodes_room : (rs : List (List ℕ)) (n coords kinds ends words : ℕ) → Fitting rs coords kinds ends words → Nodes rs n → 3 * n ≤ coords
+nodes_room rs n coords kinds ends words ok h = omega (arith, (judging_start rs n h).coords, ok.coords_fit)
 
 -- the start of the pass, behind them
-pub filling_start : (s : List ℕ) (n : ℕ) (kinds₀ ends₀ words₀ : List ℕ) → Nodes s n → Filling s kinds₀ ends₀ words₀ kinds₀ ends₀ words₀ (record { coords = 3 * n; cells = 0; words = 0 }) (drop (32 * n) s)
-filling_start s n kinds₀ ends₀ words₀ h =
-    let p = behind s n h in
+pub filling_start : (rs : List (List ℕ)) (n : ℕ) (kinds₀ ends₀ words₀ : List ℕ) → Nodes rs n → Filling rs kinds₀ ends₀ words₀ kinds₀ ends₀ words₀ (record { coords = 3 * n; cells = 0; words = 0 }) (drop n rs)
+filling_start rs n kinds₀ ends₀ words₀ h =
+    let p = behind rs n h in
     record {
       st = Begun;
-      judging = judging_start s n h;
+      judging = judging_start rs n h;
       kinds_are_lem = ap (sets kinds₀ 0) p.kinds;
       ends_are_lem = ap (sets ends₀ 0) p.ends;
       words_are = ap (sets words₀ 0) p.words;
@@ -78,29 +78,23 @@ filling_start s n kinds₀ ends₀ words₀ h =
       words_long = refl;
     }
 
-module _ (s : List ℕ) (coords : ℕ) (kinds₀ ends₀ words₀ : List ℕ) (ok : Fitting s coords (length kinds₀) (length ends₀) (length words₀)) (kinds ends words : List ℕ) (p : Place) (rest r later : List ℕ)
-    (f : Filling s kinds₀ ends₀ words₀ kinds ends words p rest) (is : rest ≡ r ++ later) (long : length r ≡ 32) where
-  -- the record, and those behind it
-  stand : records rest ≡ r ∷ records later
-  stand = records_are s f.st p rest r later f.judging is long
-
-  -- it is not refused, nor are these
-  well : (record_refusal f.st r ≡ 0) × (judge (stage (letter r) r) (records later) ≡ 0)
+module _ (rs : List (List ℕ)) (coords : ℕ) (kinds₀ ends₀ words₀ : List ℕ) (ok : Fitting rs coords (length kinds₀) (length ends₀) (length words₀)) (kinds ends words : List ℕ) (p : Place) (r : List ℕ) (later : List (List ℕ))
+    (f : Filling rs kinds₀ ends₀ words₀ kinds ends words p (r ∷ later)) where
+  -- it is not refused, nor are these behind it
+  well : (record_refusal f.st r ≡ 0) × (judge (stage (letter r) r) later ≡ 0)
   well =
-      let h = sym (ap (judge f.st) stand) ∙ f.judging.judged ∙ ok.judged_well in
-      let q = two_rows (misplaced f.st (letter r)) (record_off (letter r) r) (judge (stage (letter r) r) (records later)) h in
+      let q = two_rows (misplaced f.st (letter r)) (record_off (letter r) r) (judge (stage (letter r) r) later) (f.judging.judged ∙ ok.judged_well) in
       (rw (q.0, q.1.0) refl, q.1.1)
 
   -- there is room for it
-  pub filling_room : Room r p (length kinds) (length ends) (length words)
+  pub filling_room : Room (letter r) r p (length kinds) (length ends) (length words)
   filling_room =
       let q = two_rows (misplaced f.st (letter r)) (record_off (letter r) r) 0 well.0 in
       let few = little (letter r) r q.1.0 in
       let j = f.judging in
-      let b = ap (λ (y : List (List ℕ)). length (kinds_of y)) stand ∙ length-append (kinds_in (letter r) r) (kinds_of (records later)) in
-      let c = ap (λ (y : List (List ℕ)). length (words_of y)) stand ∙ length-append (words_in (letter r) r) (words_of (records later)) in
+      let b = length-append (kinds_in (letter r) r) (kinds_of later) in
+      let c = length-append (words_in (letter r) r) (words_of later) in
       record {
-        long = long;
         little = few.words;
         kinds_fit = omega (arith, b, j.cells, ok.kinds_fit, f.kinds_long);
         ends_fit = omega (arith, j.cells, ok.ends_fit, f.ends_long);
@@ -111,34 +105,30 @@ module _ (s : List ℕ) (coords : ℕ) (kinds₀ ends₀ words₀ : List ℕ) (o
       }
 
   -- it is stored
-  pub filling_step : (kinds' ends' words' : List ℕ) (q : Place) → Put r p q kinds kinds' ends ends' words words' → Filling s kinds₀ ends₀ words₀ kinds' ends' words' q later
-  filling_step kinds' ends' words' q u =
-      let rs = records later in
+  pub filling_step : (kinds' ends' words' : List ℕ) (q : Place) → q ≡ after (letter r) r p → Put (letter r) r p kinds kinds' ends ends' words words' → Filling rs kinds₀ ends₀ words₀ kinds' ends' words' q later
+  filling_step kinds' ends' words' q place u =
       let l = letter r in
-      subst (λ (y : Place). Filling s kinds₀ ends₀ words₀ kinds' ends' words' y later) (sym u.place)
+      subst (λ (y : Place). Filling rs kinds₀ ends₀ words₀ kinds' ends' words' y later) (sym place)
       (record {
         st = stage l r;
-        judging = judging_step s f.st p rest r later f.judging is long well.0;
-        kinds_are_lem = ap (λ (y : List ℕ). sets y (p.cells + length (kinds_in l r)) (kinds_of rs)) u.kinds_are ∙ sym (ap (λ (y : List (List ℕ)). sets kinds p.cells (kinds_of y)) stand ∙ sets_append kinds p.cells (kinds_in l r) (kinds_of rs)) ∙ f.kinds_are_lem;
+        judging = judging_step rs f.st p r later f.judging well.0;
+        kinds_are_lem = ap (λ (y : List ℕ). sets y (p.cells + length (kinds_in l r)) (kinds_of later)) u.kinds_are ∙ sym (sets_append kinds p.cells (kinds_in l r) (kinds_of later)) ∙ f.kinds_are_lem;
         ends_are_lem =
-            ap (λ (y : List ℕ). sets y (p.cells + length (kinds_in l r) - 1) (ends_of (ltb 0 (p.cells + length (kinds_in l r))) (p.words + length (words_in l r)) rs)) u.ends_are
-            ∙ next_end p.cells p.words ends l r rs (λ e. after_last rs (ap (λ (k : Option Letter). judge (stage k r) rs) (sym e) ∙ well.1))
-            ∙ sym (ap (λ (y : List (List ℕ)). sets ends (p.cells - 1) (ends_of (ltb 0 p.cells) p.words y)) stand)
+            ap (λ (y : List ℕ). sets y (p.cells + length (kinds_in l r) - 1) (ends_of (ltb 0 (p.cells + length (kinds_in l r))) (p.words + length (words_in l r)) later)) u.ends_are
+            ∙ next_end p.cells p.words ends l r later (λ e. after_last later (ap (λ (k : Option Letter). judge (stage k r) later) (sym e) ∙ well.1))
             ∙ f.ends_are_lem;
-        words_are = ap (λ (y : List ℕ). sets y (p.words + length (words_in l r)) (words_of rs)) u.words_are ∙ sym (ap (λ (y : List (List ℕ)). sets words p.words (words_of y)) stand ∙ sets_append words p.words (words_in l r) (words_of rs)) ∙ f.words_are;
+        words_are = ap (λ (y : List ℕ). sets y (p.words + length (words_in l r)) (words_of later)) u.words_are ∙ sym (sets_append words p.words (words_in l r) (words_of later)) ∙ f.words_are;
         kinds_long = ap length u.kinds_are ∙ length-sets kinds p.cells (kinds_in l r) ∙ f.kinds_long;
         ends_long = ap length u.ends_are ∙ length-sets ends (p.cells - 1) (ends_in l (ltb 0 p.cells) p.words) ∙ f.ends_long;
         words_long = ap length u.words_are ∙ length-sets words p.words (words_in l r) ∙ f.words_long;
       })
 
 -- the end of the pass
-pub filling_end : (s : List ℕ) (n : ℕ) (entry coords₀ : List Float) (kinds₀ ends₀ words₀ kinds ends words : List ℕ) (p : Place) (rest : List ℕ) → judge Begun (records s) ≡ 0 → Nodes s n → coords₀ ≡ sets entry 0 (node_coords (chop n s))
-    → Filling s kinds₀ ends₀ words₀ kinds ends words p rest → length rest < 32 → Filled s entry coords₀ kinds₀ kinds ends₀ ends words₀ words
-filling_end s n entry coords₀ kinds₀ ends₀ words₀ kinds ends words p rest ok h w f end =
-    let t = records_end rest end in
-    record {
-      coords_are = nodes_stored entry coords₀ n s h ok w;
-      kinds_are = sym (ap (λ (y : List (List ℕ)). sets kinds p.cells (kinds_of y)) t) ∙ f.kinds_are_lem;
-      ends_are = sym (ap (λ (y : List (List ℕ)). sets ends (p.cells - 1) (ends_of (ltb 0 p.cells) p.words y)) t) ∙ f.ends_are_lem;
-      words_are = sym (ap (λ (y : List (List ℕ)). sets words p.words (words_of y)) t) ∙ f.words_are;
-    }
+pub filling_end : (rs : List (List ℕ)) (n : ℕ) (entry coords₀ : List Float) (kinds₀ ends₀ words₀ kinds ends words : List ℕ) (p : Place) (rest : List (List ℕ)) → judge Begun rs ≡ 0 → Nodes rs n → coords₀ ≡ sets entry 0 (node_coords (take n rs))
+    → Filling rs kinds₀ ends₀ words₀ kinds ends words p rest → rest ≡ [] → Filled rs entry coords₀ kinds₀ kinds ends₀ ends words₀ words
+filling_end rs n entry coords₀ kinds₀ ends₀ words₀ kinds ends words p rest ok h w f t = record {
+  coords_are = nodes_stored entry coords₀ n rs h ok w;
+  kinds_are = sym (ap (λ (y : List (List ℕ)). sets kinds p.cells (kinds_of y)) t) ∙ f.kinds_are_lem;
+  ends_are = sym (ap (λ (y : List (List ℕ)). sets ends (p.cells - 1) (ends_of (ltb 0 p.cells) p.words y)) t) ∙ f.ends_are_lem;
+  words_are = sym (ap (λ (y : List (List ℕ)). sets words p.words (words_of y)) t) ∙ f.words_are;
+}

@@ -1,22 +1,21 @@
 -- The leading nodes of a file: how they are counted, what they add, and what is left behind them.
-use Prim.Native.Nat.{ℕ, zero, suc, ◌+◌, ◌*◌, ◌-◌, ◌/◌, ◌≤◌, ◌<◌}
-use mathlib.Core.Path.{◌≡◌, refl, sym, ap, ◌∙◌, subst, subst₂}
+use Prim.Native.Nat.{ℕ, suc, ◌+◌, ◌*◌, ◌≤◌, ◌<◌}
+use mathlib.Core.Path.{◌≡◌, refl, sym, ap, ◌∙◌, subst}
 use mathlib.Core.Bool.{Bool, true, false, not, cond, ◌&&◌, not-not}
 use mathlib.Core.List.{List, [], ◌∷◌, ◌++◌, append-nil}
-use native.Mathlib.Nat.{sub-zero}
 use native.Mathlib.Omega.{arith}
 use Rattle.std.specs.Prelude.{Option, Some, None}
 use lib.Dec.{eqb}
-use lib.ListN.{length, get_or, take, drop, length-append, length-drop}
-use lib.Seq.{slice, sets, take-take, drop-drop}
+use lib.ListN.{length, get_or, take, drop, length-append, length-drop, drop_of_length-le}
+use lib.Seq.{sets, length-take-le}
 use lib.Ieee.{Float}
 use borrow.Author.Tests.{eq-eqb, ne_eqb, not-true, not-false}
 use Rattle.laws.specs.Bytes.{number, zeros}
 use Rattle.laws.specs.Refusals.{refusal}
-use Rattle.laws.proofs.Stores.{take-drop, sets_append}
+use Rattle.laws.proofs.Stores.{sets_append}
 use Rattle.laws.proofs.Tests.{and_parts, clash}
 use Rattle.model_file.specs.Records.{letter, count, coords_in, record_off, misplaced, stage, in_nodes}
-use Rattle.model_file.specs.File.{chop, records, coords_of, kinds_of, words_of, ends_of, records_table}
+use Rattle.model_file.specs.File.{coords_of, kinds_of, words_of, ends_of, records_table}
 use Rattle.model_file.specs.Steps.{judge}
 use Rattle.model_file.specs.declared.Letter.{Letter}
 use Rattle.model_file.specs.declared.Letter.TheVariants.{Node, Cell, More, Last}
@@ -25,7 +24,7 @@ use Rattle.model_file.specs.declared.Stage.TheVariants.{Nodes as Begun, Done}
 use Rattle.model_file.proofs.Judgement.{passed, stage_cells}
 use Rattle.model_file.proofs.Decoded.{coords_step, kinds_step, words_step, ends_step}
 use Rattle.model_read.specs.Steps.{right_node, leading, Nodes, node_coords}
-use Rattle.model_read.proofs.JudgePass.{Judging, records_step}
+use Rattle.model_read.proofs.JudgePass.{Judging, next_record}
 use Rattle.model_read.proofs.ZeroBytes.{first_byte, zeros_number}
 
 -- ---- counting
@@ -35,26 +34,19 @@ node_number : (r : List ℕ) → right_node r ≡ eqb (number (take 8 r)) 78
 node_number [] = refl
 node_number (b ∷ r) = ap (λ (t : Bool). eqb b 78 && t) (not-not (zeros (take 7 r)) ∙ zeros_number (take 7 r)) ∙ first_byte b (number (take 7 r)) 78 (omega arith)
 
--- of a record of a file
-node_read : (s : List ℕ) (at : ℕ) → right_node (take 32 (drop at s)) ≡ eqb (number (slice at (at + 8) s)) 78
-node_read s at = node_number (take 32 (drop at s)) ∙ ap (λ (l : List ℕ). eqb (number l) 78) (take-take 8 32 (drop at s) (omega arith) ∙ take-drop at 8 s)
+module _ (rs : List (List ℕ)) (n v : ℕ) (h : n < length rs) (e : v ≡ number (take 8 (get_or rs n []))) where
+  -- how many lead from a record on, by the number of its first eight bytes
+  next_leads : leading (drop n rs) ≡ cond (eqb v 78) (suc (leading (drop (n + 1) rs))) 0
+  next_leads =
+      ap leading (next_record rs n h) ∙ ap (λ (b : Bool). cond b (suc (leading (drop (n + 1) rs))) 0) (node_number (get_or rs n []) ∙ ap (λ (k : ℕ). eqb k 78) (sym e))
 
--- how many lead from a record on, by the number of its first eight bytes
-next_leads : (s : List ℕ) (n : ℕ) → 32 * n + 32 ≤ length s → leading (records (drop (32 * n) s)) ≡ cond (eqb (number (slice (32 * n) (32 * n + 8) s)) 78) (suc (leading (records (drop (32 * n + 32) s)))) 0
-next_leads s n h = ap leading (records_step s (32 * n) h) ∙ ap (λ (b : Bool). cond b (suc (leading (records (drop (32 * n + 32) s)))) 0) (node_read s (32 * n))
+  -- it is a node: one more than from the next on
+  pub leading_one : v ≡ 78 → leading (drop n rs) ≡ suc (leading (drop (n + 1) rs))
+  leading_one k = next_leads ∙ ap (λ (b : Bool). cond b (suc (leading (drop (n + 1) rs))) 0) (eq-eqb v 78 k)
 
--- it is a node: one more than from the next on
-pub leading_one : (s : List ℕ) (n v : ℕ) → 32 * n + 32 ≤ length s → v ≡ number (slice (32 * n) (32 * n + 8) s) → v ≡ 78 → leading (records (drop (32 * n) s)) ≡ suc (leading (records (drop (32 * (n + 1)) s)))
-leading_one s n v h e k =
-    let d : 32 * n + 32 ≡ 32 * (n + 1) = omega arith in
-    next_leads s n h
-    ∙ ap (λ (b : Bool). cond b (suc (leading (records (drop (32 * n + 32) s)))) 0) (eq-eqb (number (slice (32 * n) (32 * n + 8) s)) 78 (sym e ∙ k))
-    ∙ ap (λ (m : ℕ). suc (leading (records (drop m s)))) d
-
--- it is none
-pub leading_none : (s : List ℕ) (n v : ℕ) → 32 * n + 32 ≤ length s → v ≡ number (slice (32 * n) (32 * n + 8) s) → (v ≡ 78 → ⊥) → leading (records (drop (32 * n) s)) ≡ 0
-leading_none s n v h e k =
-    next_leads s n h ∙ ap (λ (b : Bool). cond b (suc (leading (records (drop (32 * n + 32) s)))) 0) (ne_eqb (number (slice (32 * n) (32 * n + 8) s)) 78 (λ z. k (e ∙ z)))
+  -- it is none
+  pub leading_none : (v ≡ 78 → ⊥) → leading (drop n rs) ≡ 0
+  leading_none k = next_leads ∙ ap (λ (b : Bool). cond b (suc (leading (drop (n + 1) rs))) 0) (ne_eqb v 78 k)
 
 -- ---- what they add
 
@@ -124,44 +116,25 @@ none_behind (r ∷ rs) st j h = go (letter r) refl (λ t k n. none_behind rs t k
 
 -- ---- of a file
 
--- the first of more records
-take_chop : (n k : ℕ) (s : List ℕ) → n ≤ k → take n (chop k s) ≡ chop n s
-take_chop zero k s h = refl
-take_chop (suc n) zero s h = absurd (omega arith)
-take_chop (suc n) (suc k) s h = ap (λ (t : List (List ℕ)). take 32 s ∷ t) (take_chop n k (drop 32 s) (omega arith))
-
--- those behind the first
-drop_chop : (n k : ℕ) (s : List ℕ) → n ≤ k → drop n (chop k s) ≡ chop (k - n) (drop (32 * n) s)
-drop_chop zero k s h = ap (λ (m : ℕ). chop m s) (sym (sub-zero k))
-drop_chop (suc n) zero s h = absurd (omega arith)
-drop_chop (suc n) (suc k) s h =
-    let a : k - n ≡ suc k - suc n = omega arith in
-    let b : 32 + 32 * n ≡ 32 * suc n = omega arith in
-    drop_chop n k (drop 32 s) (omega arith) ∙ (λ i. chop (a i) ((drop-drop (32 * n) 32 s ∙ ap (λ (m : ℕ). drop m s) b) i))
-
 -- what the leading nodes of a file add
-pub behind : (s : List ℕ) (n : ℕ) → Nodes s n → Led (chop n s) (records (drop (32 * n) s)) (records s)
-behind s n h =
-    let d = length-drop (32 * n) s in
-    let few : n ≤ length s / 32 = omega (arith, h.inside) in
-    let k : length s / 32 - n ≡ length (drop (32 * n) s) / 32 = omega (arith, h.inside) in
-    subst₂ (λ (x y : List (List ℕ)). Led x y (records s)) (take_chop n (length s / 32) s few) (drop_chop n (length s / 32) s few ∙ ap (λ (m : ℕ). chop m (drop (32 * n) s)) k)
-    (subst (λ (m : ℕ). Led (take m (records s)) (drop m (records s)) (records s)) (sym h.counted) (led (records s)))
+pub behind : (rs : List (List ℕ)) (n : ℕ) → Nodes rs n → Led (take n rs) (drop n rs) rs
+behind rs n h = subst (λ (m : ℕ). Led (take m rs) (drop m rs) rs) (sym h.counted) (led rs)
 
 -- three coordinates each
-length-node_coords : (n : ℕ) (s : List ℕ) → length (node_coords (chop n s)) ≡ 3 * n
-length-node_coords zero s = refl
-length-node_coords (suc n) s = let i = length-node_coords n (drop 32 s) in omega (arith, length-append (coords_in (Some Node) (take 32 s)) (node_coords (chop n (drop 32 s))))
+length-node_coords : (rs : List (List ℕ)) → length (node_coords rs) ≡ 3 * length rs
+length-node_coords [] = refl
+length-node_coords (r ∷ rs) = let i = length-node_coords rs in omega (arith, length-append (coords_in (Some Node) r) (node_coords rs))
 
 -- the judging pass starts behind them
-pub judging_start : (s : List ℕ) (n : ℕ) → Nodes s n → Judging s Begun (record { coords = 3 * n; cells = 0; words = 0 }) (drop (32 * n) s)
-judging_start s n h =
-    let p = behind s n h in
-    let a = ap length p.coords ∙ length-append (node_coords (chop n s)) (coords_of (records (drop (32 * n) s))) in
-    let b = length-node_coords n s in
+pub judging_start : (rs : List (List ℕ)) (n : ℕ) → Nodes rs n → Judging rs Begun (record { coords = 3 * n; cells = 0; words = 0 }) (drop n rs)
+judging_start rs n h =
+    let p = behind rs n h in
+    let a = ap length p.coords ∙ length-append (node_coords (take n rs)) (coords_of (drop n rs)) in
+    let b = length-node_coords (take n rs) in
+    let t = length-take-le n rs h.inside in
     let c = ap length p.kinds in
     let d = ap length p.words in
-    let e = length-drop (32 * n) s in
+    let e = length-drop n rs in
     let f = h.inside in
     record {
       judged = p.judged;
@@ -175,20 +148,22 @@ judging_start s n h =
 
 -- ---- the loop that stores their coordinates: a turn
 
-pub nodes_more : (l l' : List Float) (n i : ℕ) (s : List ℕ) → i < n → l' ≡ sets l (3 * i) (coords_in (Some Node) (take 32 (drop (32 * i) s)))
-    → sets l' (3 * (i + 1)) (node_coords (chop (n - (i + 1)) (drop (32 * (i + 1)) s))) ≡ sets l (3 * i) (node_coords (chop (n - i) (drop (32 * i) s)))
-nodes_more l l' n i s h e =
-    let a : n - i ≡ suc (n - (i + 1)) = omega arith in
+pub nodes_more : (l l' : List Float) (i : ℕ) (rs : List (List ℕ)) → i < length rs → l' ≡ sets l (3 * i) (coords_in (Some Node) (get_or rs i []))
+    → sets l' (3 * (i + 1)) (node_coords (drop (i + 1) rs)) ≡ sets l (3 * i) (node_coords (drop i rs))
+nodes_more l l' i rs h e =
     let b : 3 * i + 3 ≡ 3 * (i + 1) = omega arith in
-    let d : 32 * i + 32 ≡ 32 * (i + 1) = omega arith in
-    let r = take 32 (drop (32 * i) s) in
-    sym (ap (λ (k : ℕ). sets l (3 * i) (node_coords (chop k (drop (32 * i) s)))) a
-    ∙ sets_append l (3 * i) (coords_in (Some Node) r) (node_coords (chop (n - (i + 1)) (drop 32 (drop (32 * i) s))))
-    ∙ (λ j. sets (sym e j) (b j) (node_coords (chop (n - (i + 1)) ((drop-drop 32 (32 * i) s ∙ ap (λ (k : ℕ). drop k s) d) j)))))
+    let r = get_or rs i [] in
+    sym (ap (λ (x : List (List ℕ)). sets l (3 * i) (node_coords x)) (next_record rs i h)
+    ∙ sets_append l (3 * i) (coords_in (Some Node) r) (node_coords (drop (i + 1) rs))
+    ∙ (λ j. sets (sym e j) (b j) (node_coords (drop (i + 1) rs))))
+
+-- no record is left
+pub nodes_end : (l : List Float) (i : ℕ) (rs : List (List ℕ)) → length rs ≤ i → sets l (3 * i) (node_coords (drop i rs)) ≡ l
+nodes_end l i rs h = ap (λ (x : List (List ℕ)). sets l (3 * i) (node_coords x)) (drop_of_length-le rs h)
 
 -- they are stored, and these are all coordinates
-pub nodes_stored : (l l' : List Float) (n : ℕ) (s : List ℕ) → Nodes s n → judge Begun (records s) ≡ 0 → l' ≡ sets l 0 (node_coords (chop n s)) → l' ≡ sets l 0 (coords_of (records s))
-nodes_stored l l' n s h j e =
-    let p = behind s n h in
-    let z = none_behind (records (drop (32 * n) s)) Begun (p.judged ∙ j) (λ _. p.none) in
-    e ∙ ap (sets l 0) (sym (p.coords ∙ ap (λ (t : List Float). node_coords (chop n s) ++ t) z ∙ append-nil (node_coords (chop n s))))
+pub nodes_stored : (l l' : List Float) (n : ℕ) (rs : List (List ℕ)) → Nodes rs n → judge Begun rs ≡ 0 → l' ≡ sets l 0 (node_coords (take n rs)) → l' ≡ sets l 0 (coords_of rs)
+nodes_stored l l' n rs h j e =
+    let p = behind rs n h in
+    let z = none_behind (drop n rs) Begun (p.judged ∙ j) (λ _. p.none) in
+    e ∙ ap (sets l 0) (sym (p.coords ∙ ap (λ (t : List Float). node_coords (take n rs) ++ t) z ∙ append-nil (node_coords (take n rs))))

@@ -3,7 +3,7 @@ use Rattle.std.specs.Prelude.{ℕ, suc, ◌+◌, ◌*◌, ◌-◌, ◌/◌, ◌^
 use Rattle.std.proofs.lemmas.List.Edits.{sets}
 use Rattle.laws.specs.Lists.{each}
 use Rattle.model_file.specs.Records.{letter, byte1, float_at, cap_in, words_at, coords_in, kinds_in, words_in, ends_in, record_off}
-use Rattle.model_file.specs.File.{records, coords_of, kinds_of, words_of, ends_of}
+use Rattle.model_file.specs.File.{coords_of, kinds_of, words_of, ends_of}
 use Rattle.model_file.specs.Steps.{judge, record_refusal}
 use Rattle.model_file.specs.declared.Letter.{Letter}
 use Rattle.model_file.specs.declared.Letter.TheVariants.{Node}
@@ -27,10 +27,10 @@ abbrev pub leading : List (List ℕ) → ℕ
 leading [] = 0
 leading (r ∷ rs) = cond (right_node r) (suc (leading rs)) 0
 
--- n is how many of a file's records are
-pub record Nodes (s : List ℕ) (n : ℕ) : Type 0 where
-  pub counted : n ≡ leading (records s)
-  pub inside : 32 * n ≤ length s
+-- n is how many of these records are
+pub record Nodes (rs : List (List ℕ)) (n : ℕ) : Type 0 where
+  pub counted : n ≡ leading rs
+  pub inside : n ≤ length rs
 
 -- the coordinates of records that are N
 abbrev pub node_coords : List (List ℕ) → List Float
@@ -40,16 +40,16 @@ node_coords rs = each (coords_in (Some Node)) rs
 abbrev pub RecordJudged : Stage → List ℕ → Result Letter Refusal → Type 0
 RecordJudged s r x = MatchResult x (λ l. (letter r ≡ Some l) × (record_refusal s r ≡ 0)) (λ e. record_refusal s r ≡ number e)
 
--- a file with nothing wrong, and how much it holds
-pub record Counted (s : List ℕ) (p : Place) : Type 0 where
-  pub judged : judge Begun (records s) ≡ 0
-  pub coords : p.coords ≡ length (coords_of (records s))
-  pub cells : p.cells ≡ length (kinds_of (records s))
-  pub words : p.words ≡ length (words_of (records s))
+-- the records of a file with nothing wrong, and how much they hold
+pub record Counted (rs : List (List ℕ)) (p : Place) : Type 0 where
+  pub judged : judge Begun rs ≡ 0
+  pub coords : p.coords ≡ length (coords_of rs)
+  pub cells : p.cells ≡ length (kinds_of rs)
+  pub words : p.words ≡ length (words_of rs)
 
--- the judging pass: how much the file holds, or the refusal
-abbrev pub Judged : List ℕ → Result Place Refusal → Type 0
-Judged s x = MatchResult x (Counted s) (λ e. judge Begun (records s) ≡ number e)
+-- the judging pass: how much the records hold, or the refusal
+abbrev pub Judged : List (List ℕ) → Result Place Refusal → Type 0
+Judged rs x = MatchResult x (Counted rs) (λ e. judge Begun rs ≡ number e)
 
 -- lists of these lengths, one of them too short
 abbrev pub short : Place → ℕ → ℕ → ℕ → ℕ → Bool
@@ -66,39 +66,37 @@ pub record Stored (r : List ℕ) (at n j k most : ℕ) (words words' : List ℕ)
   pub few : n < k + most
   pub words_are : words' ≡ sets words (at + j) (words_between j k r)
 
--- room for what a record adds, in lists of these lengths
-pub record Room (r : List ℕ) (p : Place) (kinds ends words : ℕ) : Type 0 where
-  pub long : length r ≡ 32
-  pub little : length (words_in (letter r) r) ≤ 14
-  pub kinds_fit : p.cells + length (kinds_in (letter r) r) ≤ kinds
+-- room for what a record with this letter adds, in lists of these lengths
+pub record Room (l : Option Letter) (r : List ℕ) (p : Place) (kinds ends words : ℕ) : Type 0 where
+  pub little : length (words_in l r) ≤ 14
+  pub kinds_fit : p.cells + length (kinds_in l r) ≤ kinds
   pub ends_fit : p.cells ≤ ends
-  pub words_fit : p.words + length (words_in (letter r) r) ≤ words
+  pub words_fit : p.words + length (words_in l r) ≤ words
   pub few_coords : p.coords < 2 ^ 40
   pub few_cells : p.cells < 2 ^ 40
   pub few_words : p.words < 2 ^ 32
 
--- what a record leaves in the lists, and the place after it
-pub record Put (r : List ℕ) (p q : Place) (kinds kinds' ends ends' words words' : List ℕ) : Type 0 where
-  pub place : q ≡ after (letter r) r p
-  pub kinds_are : kinds' ≡ sets kinds p.cells (kinds_in (letter r) r)
-  pub ends_are : ends' ≡ sets ends (p.cells - 1) (ends_in (letter r) (ltb 0 p.cells) p.words)
-  pub words_are : words' ≡ sets words p.words (words_in (letter r) r)
+-- what it leaves in the lists
+pub record Put (l : Option Letter) (r : List ℕ) (p : Place) (kinds kinds' ends ends' words words' : List ℕ) : Type 0 where
+  pub kinds_are : kinds' ≡ sets kinds p.cells (kinds_in l r)
+  pub ends_are : ends' ≡ sets ends (p.cells - 1) (ends_in l (ltb 0 p.cells) p.words)
+  pub words_are : words' ≡ sets words p.words (words_in l r)
 
--- a file, and lists of these lengths that it fits into
-pub record Fitting (s : List ℕ) (coords kinds ends words : ℕ) : Type 0 where
-  pub short : length s ≤ 4194304
-  pub judged_well : judge Begun (records s) ≡ 0
-  pub coords_fit : length (coords_of (records s)) ≤ coords
-  pub kinds_fit : length (kinds_of (records s)) ≤ kinds
-  pub ends_fit : length (kinds_of (records s)) ≤ ends
-  pub words_fit : length (words_of (records s)) ≤ words
+-- the records of a file, and lists of these lengths that it fits into
+pub record Fitting (rs : List (List ℕ)) (coords kinds ends words : ℕ) : Type 0 where
+  pub short : length rs ≤ 131072
+  pub judged_well : judge Begun rs ≡ 0
+  pub coords_fit : length (coords_of rs) ≤ coords
+  pub kinds_fit : length (kinds_of rs) ≤ kinds
+  pub ends_fit : length (kinds_of rs) ≤ ends
+  pub words_fit : length (words_of rs) ≤ words
 
 -- what the filling pass leaves in the lists
-pub record Filled (s : List ℕ) (coords coords' : List Float) (kinds kinds' ends ends' words words' : List ℕ) : Type 0 where
-  pub coords_are : coords' ≡ sets coords 0 (coords_of (records s))
-  pub kinds_are : kinds' ≡ sets kinds 0 (kinds_of (records s))
-  pub ends_are : ends' ≡ sets ends 0 (ends_of false 0 (records s))
-  pub words_are : words' ≡ sets words 0 (words_of (records s))
+pub record Filled (rs : List (List ℕ)) (coords coords' : List Float) (kinds kinds' ends ends' words words' : List ℕ) : Type 0 where
+  pub coords_are : coords' ≡ sets coords 0 (coords_of rs)
+  pub kinds_are : kinds' ≡ sets kinds 0 (kinds_of rs)
+  pub ends_are : ends' ≡ sets ends 0 (ends_of false 0 rs)
+  pub words_are : words' ≡ sets words 0 (words_of rs)
 
 -- what is answered, from the last record and the place after it
 abbrev pub found_at : List ℕ → Place → Found

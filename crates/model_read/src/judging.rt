@@ -12,40 +12,40 @@ use refusals::Refusal;
 // Three sizes, each one number that is read at once: as one function over N bytes, reading a file took 1.8 times the instructions.
 
 // Whether eight bytes are zero.
-fn zero_eight(r: &[u8], at: usize) -> bool
-    requires { at + 8 ≤ length r.now }
+fn zero_eight(r: &[u8; 32], at: usize) -> bool
+    requires { at + 8 ≤ 32 }
     ensures { result ≡ zeros (slice at (at + 8) r.now) }
 {
-    floats::le_u64(r, at) == 0
+    floats::get::<u64, 8>(r, at) == 0
 }
 
 // Whether four bytes are zero.
-fn zero_four(r: &[u8], at: usize) -> bool
-    requires { at + 4 ≤ length r.now }
+fn zero_four(r: &[u8; 32], at: usize) -> bool
+    requires { at + 4 ≤ 32 }
     ensures { result ≡ zeros (slice at (at + 4) r.now) }
 {
-    floats::le_four(r, at) == 0
+    floats::get::<u32, 4>(r, at) == 0
 }
 
 // Whether two bytes are zero.
-fn zero_two(r: &[u8], at: usize) -> bool
-    requires { at + 2 ≤ length r.now }
+fn zero_two(r: &[u8; 32], at: usize) -> bool
+    requires { at + 2 ≤ 32 }
     ensures { result ≡ zeros (slice at (at + 2) r.now) }
 {
-    floats::le_two(r, at) == 0
+    floats::get::<u16, 2>(r, at) == 0
 }
 
 // Whether sixteen bytes are zero.
-fn zero_sixteen(r: &[u8], at: usize) -> bool
-    requires { at + 16 ≤ length r.now }
+fn zero_sixteen(r: &[u8; 32], at: usize) -> bool
+    requires { at + 16 ≤ 32 }
     ensures { result ≡ zeros (slice at (at + 16) r.now) }
 {
     zero_eight(r, at) & zero_eight(r, at + 8)
 }
 
 // Whether a record's bytes from an even place on are zero: the first and the last of them, which may overlap.
-fn rest_zero(r: &[u8], from: usize) -> bool
-    requires { (length r.now ≡ 32) × (from % 2 ≡ 0) × (from ≤ 30) }
+fn rest_zero(r: &[u8; 32], from: usize) -> bool
+    requires { (from % 2 ≡ 0) × (from ≤ 30) }
     ensures { result ≡ zeros (slice from 32 r.now) }
 {
     if from <= 16 {
@@ -61,8 +61,7 @@ fn rest_zero(r: &[u8], from: usize) -> bool
 }
 
 // A count from `least` on, byte 3 and the unused words zero.
-fn words_right(r: &[u8], least: u8) -> bool
-    requires { length r.now ≡ 32 }
+fn words_right(r: &[u8; 32], least: u8) -> bool
     ensures { result ≡ words_right least r.now }
 {
     let n = r[2];
@@ -82,8 +81,7 @@ fn words_right(r: &[u8], least: u8) -> bool
 }
 
 // A count or zero byte is wrong.
-fn record_off(l: Letter, r: &[u8]) -> bool
-    requires { length r.now ≡ 32 }
+fn record_off(l: Letter, r: &[u8; 32]) -> bool
     ensures { result ≡ record_off (Some l) r.now }
 {
     match l {
@@ -117,8 +115,7 @@ fn misplaced(s: Stage, l: Letter) -> bool
 }
 
 // A record's letter, where the record is not refused at a stage: 2 before 3.
-fn judge_record(s: Stage, r: &[u8]) -> Result<Letter, Refusal>
-    requires { length r.now ≡ 32 }
+fn judge_record(s: Stage, r: &[u8; 32]) -> Result<Letter, Refusal>
     ensures { RecordJudged s r.now result }
 {
     let l = Letter::try_from(r[0])?;
@@ -132,8 +129,7 @@ fn judge_record(s: Stage, r: &[u8]) -> Result<Letter, Refusal>
 }
 
 // The stage after a C or K.
-fn full(r: &[u8]) -> Stage
-    requires { length r.now ≡ 32 }
+fn full(r: &[u8; 32]) -> Stage
     ensures { result ≡ stage (Some Letter.Cell) r.now }
 {
     if r[2] == 14 {
@@ -143,8 +139,7 @@ fn full(r: &[u8]) -> Stage
 }
 
 // The stage after a record.
-fn stage_after(l: Letter, r: &[u8]) -> Stage
-    requires { length r.now ≡ 32 }
+fn stage_after(l: Letter, r: &[u8; 32]) -> Stage
     ensures { result ≡ stage (Some l) r.now }
 {
     match l {
@@ -156,8 +151,8 @@ fn stage_after(l: Letter, r: &[u8]) -> Stage
 }
 
 // The place after a record.
-pub fn place_after(l: Letter, r: &[u8], p: Place) -> Place
-    requires { (length r.now ≡ 32) × (p.coords < 2 ^ 40) × (p.cells < 2 ^ 40) × (p.words < 2 ^ 40) }
+pub fn place_after(l: Letter, r: &[u8; 32], p: Place) -> Place
+    requires { (p.coords < 2 ^ 40) × (p.cells < 2 ^ 40) × (p.words < 2 ^ 40) }
     ensures { result ≡ after (Some l) r.now p }
 {
     match l {
@@ -166,9 +161,9 @@ pub fn place_after(l: Letter, r: &[u8], p: Place) -> Place
             ..p
         },
         Letter::Cell => Place {
-            coords: p.coords,
             cells: p.cells + 1,
             words: p.words + r[2] as usize,
+            ..p
         },
         Letter::More => Place {
             words: p.words + r[2] as usize,
@@ -179,22 +174,23 @@ pub fn place_after(l: Letter, r: &[u8], p: Place) -> Place
 }
 
 // How many records from the first on are N with nothing wrong: their first eight bytes are 78 and zeros.
-pub fn leading_nodes(bytes: &[u8]) -> usize
-    ensures { Nodes bytes.now result }
+// Taken into its caller the loop keeps the places in the lists too, two instructions more a node.
+#[inline(never)]
+pub fn leading_nodes(records: &[[u8; 32]]) -> usize
+    ensures { Nodes records.now result }
 {
-    let most = bytes.len() / 32;
-    for n in 0..most {
-        if floats::le_u64(bytes, 32 * n) != 78 {
+    for (n, r) in records.iter().enumerate() {
+        if floats::get::<u64, 8>(r, 0) != 78 {
             return n;
         }
     }
-    most
+    records.len()
 }
 
 // The judging pass, from behind the leading nodes on.
-pub fn judge_all(bytes: &[u8], nodes: usize) -> Result<Place, Refusal>
-    requires { (length bytes.now % 32 ≡ 0) × (length bytes.now ≤ 4194304) × Nodes bytes.now nodes }
-    ensures { Judged bytes.now result }
+pub fn judge_all(records: &[[u8; 32]], nodes: usize) -> Result<Place, Refusal>
+    requires { (length records.now ≤ 131072) × Nodes records.now nodes }
+    ensures { Judged records.now result }
 {
     let mut stage = Stage::Nodes;
     let mut p = Place {
@@ -202,10 +198,11 @@ pub fn judge_all(bytes: &[u8], nodes: usize) -> Result<Place, Refusal>
         cells: 0,
         words: 0,
     };
-    for record in bytes[32 * nodes..].chunks_exact(32) {
-        let l = judge_record(stage, record)?;
-        p = place_after(l, record, p);
-        stage = stage_after(l, record);
+    let rest = &records[nodes..];
+    for r in rest {
+        let l = judge_record(stage, r)?;
+        p = place_after(l, r, p);
+        stage = stage_after(l, r);
     }
     if stage != Stage::Done {
         return Err(Refusal::Letter);

@@ -1,8 +1,7 @@
 // Reading a model file into lent lists.
 #![tactic(auto)]
 
-ghost use Rattle.std.specs.Prelude.{◌≡◌, ◌≤◌, length};
-ghost use Rattle.model_file.specs.Records.{cap_in};
+ghost use Rattle.std.specs.Prelude.{◌≡◌};
 ghost use Rattle.model_file.specs.File.{length_off};
 ghost use Rattle.model_file.specs.Reading.{Reading};
 ghost use Rattle.model_read.specs.Steps.{short as short_of, found_at};
@@ -16,7 +15,7 @@ use refusals::Refusal;
 mod judging; // one pass over the records: the first refusal, or how much the file holds
 mod filling; // one more pass, which fills the lists
 
-// How far the lists are filled.
+// How many coordinates, cells and words records hold, from the first on: so far the lists are filled.
 #[derive(Clone, Copy)]
 struct Place {
     coords: usize,
@@ -24,26 +23,17 @@ struct Place {
     words: usize,
 }
 
-// Bytes 2 and 3.
-fn cap_of(r: &[u8]) -> u16
-    requires { 4 ≤ length r.now }
-    ensures { result ≡ cap_in r.now }
-{
-    floats::le_two(r, 2) as u16
-}
-
-// What a file says besides its lists.
-fn found_in(r: &[u8], p: Place) -> Found
-    requires { length r.now ≡ 32 }
+// What a file says besides its lists, by its last record.
+fn found_in(r: &[u8; 32], p: Place) -> Found
     ensures { result ≡ found_at r.now p }
 {
     Found {
         nodes: p.coords / 3,
         cells: p.cells,
         words: p.words,
-        tolerance: floats::le_f64(r, 8),
+        tolerance: floats::get(r, 8),
         checks: Checks(r[1]),
-        cap: cap_of(r),
+        cap: floats::get(r, 2),
     }
 }
 
@@ -81,11 +71,12 @@ pub fn read(
     if length_off(bytes.len()) {
         return Err(Refusal::FileLength);
     }
-    let nodes = leading_nodes(bytes);
-    let p = judge_all(bytes, nodes)?;
+    let (records, _) = bytes.as_chunks::<32>();
+    let nodes = leading_nodes(records);
+    let p = judge_all(records, nodes)?;
     if room_off(p, coords.len(), kinds.len(), ends.len(), words.len()) {
         return Err(Refusal::Room);
     }
-    fill_all(bytes, coords, kinds, ends, words, nodes);
-    Ok(found_in(&bytes[bytes.len() - 32..], p))
+    fill_all(records, coords, kinds, ends, words, nodes);
+    Ok(found_in(&records[records.len() - 1], p))
 }

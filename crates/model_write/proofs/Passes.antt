@@ -1,5 +1,5 @@
 -- The loops of writing: nodes, a cell's further records, cells.
-use Prim.Native.Nat.{ℕ, suc, ◌+◌, ◌*◌, ◌-◌, ◌/◌, ◌%◌, ◌≤◌, ◌<◌, min}
+use Prim.Native.Nat.{ℕ, suc, ◌+◌, ◌*◌, ◌-◌, ◌/◌, ◌≤◌, ◌<◌, min}
 use mathlib.Core.Path.{◌≡◌, refl, sym, ap, ◌∙◌}
 use mathlib.Core.Logic.{inl, inr}
 use mathlib.Core.List.{List, [], ◌∷◌, ◌++◌}
@@ -7,9 +7,10 @@ use native.Mathlib.Omega.{arith}
 use lib.ListN.{length, get_or, take, drop, length-append, length-take, drop_of_length-le}
 use lib.Seq.{sets, drop-cons}
 use lib.Ieee.{Float, nan}
+use Rattle.std.specs.Simd.{first_chunks}
 use Rattle.laws.specs.Lists.{each, All}
 use Rattle.laws.proofs.ListLaws.{each_append}
-use Rattle.laws.proofs.Stores.{sets_append, lent_sets}
+use Rattle.laws.proofs.Stores.{sets_append}
 use Rattle.mesh.specs.Model.{Raw}
 use Rattle.mesh.specs.Steps.{cell_with}
 use Rattle.model_file.specs.Records.{node_record, cell_record, more_record}
@@ -19,41 +20,34 @@ use Rattle.model_file.proofs.Layouts.{word_length}
 use Rattle.model_file.proofs.Chop.{Whole, length_join, mores_whole, mores_count}
 use Rattle.model_file.proofs.Decoded.{Cut, cell_join, more_join}
 
--- a record put in 32 bytes that are lent out is a run of stores
-pub record_put : (out new r : List ℕ) (at : ℕ) → new ≡ r → length r ≡ 32 → at + 32 ≤ length out → take at out ++ (new ++ drop (at + 32 - at) (drop at out)) ≡ sets out at r
-record_put out new r at e n h = ap (λ (x : List ℕ). take at out ++ (x ++ drop (at + 32 - at) (drop at out))) e ∙ lent_sets 32 out r at n h
-
 -- ---- nodes
 
--- the three coordinates of a node
-three_fit : (i n : ℕ) → i < n / 3 → 3 * i + 2 < n
-three_fit i n h = omega arith
+-- the record of three coordinates
+abbrev pub record_of_node : List Float → List ℕ
+record_of_node t = node_record (get_or t 0 nan) (get_or t 1 nan) (get_or t 2 nan)
 
-module _ (cs : List Float) (i : ℕ) (h : i < length cs / 3) where
-  -- the next node, and those after it
-  node_step : node_records (drop (3 * i) cs) ≡ node_record (get_or cs (3 * i) nan) (get_or cs (3 * i + 1) nan) (get_or cs (3 * i + 2) nan) ∷ node_records (drop (3 * (i + 1)) cs)
-  node_step =
-      let w = three_fit i (length cs) h in
-      let e1 : suc (3 * i) ≡ 3 * i + 1 = omega arith in
-      let e2 : suc (3 * i + 1) ≡ 3 * i + 2 = omega arith in
-      let e3 : suc (3 * i + 2) ≡ 3 * (i + 1) = omega arith in
-      ap node_records
-      (drop-cons cs (3 * i) nan (omega arith)
-      ∙ ap (λ (t : List Float). get_or cs (3 * i) nan ∷ t)
-      (ap (λ (k : ℕ). drop k cs) e1
-      ∙ drop-cons cs (3 * i + 1) nan (omega arith)
-      ∙ ap (λ (t : List Float). get_or cs (3 * i + 1) nan ∷ t) (ap (λ (k : ℕ). drop k cs) e2 ∙ drop-cons cs (3 * i + 2) nan (omega arith) ∙ ap (λ (k : ℕ). get_or cs (3 * i + 2) nan ∷ drop k cs) e3)))
+-- those of all nodes
+pub nodes_chunked : (cs : List Float) → each record_of_node (first_chunks 3 (length cs / 3) cs) ≡ join (node_records cs)
+nodes_chunked [] = refl
+nodes_chunked (x ∷ []) = refl
+nodes_chunked (x ∷ y ∷ []) = refl
+nodes_chunked (x ∷ y ∷ z ∷ cs) =
+    let n : length (x ∷ y ∷ z ∷ cs) / 3 ≡ suc (length cs / 3) = omega arith in
+    ap (λ (k : ℕ). each record_of_node (first_chunks 3 k (x ∷ y ∷ z ∷ cs))) n ∙ ap (λ (l : List ℕ). node_record x y z ++ l) (nodes_chunked cs)
 
-  -- one turn of the loop
-  pub nodes_more : (l : List ℕ) → sets (sets l (32 * i) (node_record (get_or cs (3 * i) nan) (get_or cs (3 * i + 1) nan) (get_or cs (3 * i + 2) nan))) (32 * (i + 1)) (join (node_records (drop (3 * (i + 1)) cs))) ≡ sets l (32 * i) (join (node_records (drop (3 * i) cs)))
-  nodes_more l =
-      let r = node_record (get_or cs (3 * i) nan) (get_or cs (3 * i + 1) nan) (get_or cs (3 * i + 2) nan) in
-      let e : 32 * (i + 1) ≡ 32 * i + 32 = omega arith in
-      sym (ap (λ (x : List (List ℕ)). sets l (32 * i) (join x)) node_step ∙ sets_append l (32 * i) r (join (node_records (drop (3 * (i + 1)) cs))) ∙ ap (λ (k : ℕ). sets (sets l (32 * i) r) k (join (node_records (drop (3 * (i + 1)) cs)))) (sym e))
+-- one node more
+pub nodes_more : (ts : List (List Float)) (i : ℕ) (l : List ℕ) → i < length ts → sets (sets l (32 * i) (record_of_node (get_or ts i []))) (32 * (i + 1)) (each record_of_node (drop (i + 1) ts)) ≡ sets l (32 * i) (each record_of_node (drop i ts))
+nodes_more ts i l h =
+    let r = record_of_node (get_or ts i []) in
+    let e : 32 * i + 32 ≡ 32 * (i + 1) = omega arith in
+    let s : suc i ≡ i + 1 = omega arith in
+    sym (ap (λ (x : List (List Float)). sets l (32 * i) (each record_of_node x)) (drop-cons ts i [] h ∙ ap (λ (k : ℕ). get_or ts i [] ∷ drop k ts) s)
+    ∙ sets_append l (32 * i) r (each record_of_node (drop (i + 1) ts))
+    ∙ ap (λ (k : ℕ). sets (sets l (32 * i) r) k (each record_of_node (drop (i + 1) ts))) e)
 
 -- no node is left
-pub nodes_done : (cs : List Float) (i : ℕ) (l : List ℕ) → length cs % 3 ≡ 0 → length cs / 3 ≤ i → sets l (32 * i) (join (node_records (drop (3 * i) cs))) ≡ l
-nodes_done cs i l m h = let w : length cs ≤ 3 * i = omega arith in ap (λ (x : List Float). sets l (32 * i) (join (node_records x))) (drop_of_length-le cs w)
+pub nodes_done : (ts : List (List Float)) (i : ℕ) (l : List ℕ) → length ts ≤ i → sets l (32 * i) (each record_of_node (drop i ts)) ≡ l
+nodes_done ts i l h = ap (λ (x : List (List Float)). sets l (32 * i) (each record_of_node x)) (drop_of_length-le ts h)
 
 -- ---- a cell's records
 

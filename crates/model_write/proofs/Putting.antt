@@ -5,33 +5,24 @@ use mathlib.Core.List.{List, [], ◌∷◌, ◌++◌, append_assoc, append-nil}
 use native.Mathlib.Nat.{sub-zero}
 use native.Mathlib.Numerals.{add-one}
 use native.Mathlib.Omega.{arith}
-use lib.ListN.{length, get_or, take, drop, set, replicate, length-append, length-take, length-drop, length-replicate}
+use lib.ListN.{length, get_or, take, drop, set, replicate, length-append, length-drop, length-replicate}
 use lib.Seq.{sets, sets-eq, drop-drop, get_or-drop, take_all, take-add, take-suc, length-take-le, take-append_seam, drop-append-add}
-use lib.Ieee.{Float}
 use Rattle.laws.specs.Bytes.{bytes}
 use Rattle.laws.proofs.ListLaws.{each_append}
-use Rattle.laws.proofs.Stores.{sets_append, sets_all, lent_sets}
-use Rattle.floats.specs.Floats.{float_bytes}
-use Rattle.model_file.specs.Records.{narrow, word_bytes, node_record, word_record, last_record}
+use Rattle.laws.proofs.Stores.{sets_append}
+use Rattle.model_file.specs.Records.{narrow, word_bytes, word_record}
 use Rattle.model_file.proofs.Fields.{length-word_bytes}
 
--- zeros put in bytes that are lent out are a run of stores
-pub zeros_put : (n : ℕ) (l new : List ℕ) (o : ℕ) → o + n ≤ length l → new ≡ replicate (length (take (o + n - o) (drop o l))) 0 → take o l ++ (new ++ drop (o + n - o) (drop o l)) ≡ sets l o (replicate n 0)
-zeros_put n l new o h e =
-    let k : length (take (o + n - o) (drop o l)) ≡ n = simp (length-take, length-drop) (omega arith) in
-    ap (λ (x : List ℕ). take o l ++ (x ++ drop (o + n - o) (drop o l))) (e ∙ ap (λ (x : ℕ). replicate x 0) k)
-    ∙ lent_sets n l (replicate n 0) o (length-replicate n 0) h
-
 -- one word more of those from the j-th on
-pub words_more : (l₀ l ws : List ℕ) (j i v : ℕ) → j + i < length ws → v ≡ narrow (get_or ws (j + i) 0) → l ≡ sets l₀ (4 + 2 * j) (word_bytes (take i (drop j ws)))
+pub words_more : (l₀ l ws : List ℕ) (j i v : ℕ) → j + i < length ws → bytes 2 v ≡ bytes 2 (narrow (get_or ws (j + i) 0)) → l ≡ sets l₀ (4 + 2 * j) (word_bytes (take i (drop j ws)))
     → sets l (4 + 2 * (j + i)) (bytes 2 v) ≡ sets l₀ (4 + 2 * j) (word_bytes (take (i + 1) (drop j ws)))
 words_more l₀ l ws j i v h e w =
     let rest = drop j ws in
     let d = length-drop j ws in
     let n : length (word_bytes (take i rest)) ≡ 2 * i = length-word_bytes (take i rest) ∙ ap (λ (x : ℕ). 2 * x) (length-take-le i rest (omega arith)) in
     let p : 4 + 2 * (j + i) ≡ 4 + 2 * j + length (word_bytes (take i rest)) = omega arith in
-    let g : v ≡ narrow (get_or rest i 0) = e ∙ ap narrow (sym (get_or-drop j ws i 0)) in
-    (λ t. sets (w t) (p t) (bytes 2 (g t)))
+    let g : bytes 2 v ≡ bytes 2 (narrow (get_or rest i 0)) = e ∙ ap (λ (w : ℕ). bytes 2 (narrow w)) (sym (get_or-drop j ws i 0)) in
+    (λ t. sets (w t) (p t) (g t))
     ∙ sym (ap (λ (x : List ℕ). sets l₀ (4 + 2 * j) (word_bytes x)) (ap (λ (x : ℕ). take x rest) (add-one i) ∙ take-suc rest i 0 (omega arith))
     ∙ ap (sets l₀ (4 + 2 * j)) (each_append (λ (x : ℕ). bytes 2 (narrow x)) (take i rest) (get_or rest i 0 ∷ []) ∙ ap (λ (x : List ℕ). word_bytes (take i rest) ++ x) (append-nil (bytes 2 (narrow (get_or rest i 0)))))
     ∙ sets_append l₀ (4 + 2 * j) (word_bytes (take i rest)) (bytes 2 (narrow (get_or rest i 0))))
@@ -56,22 +47,6 @@ pub words_all : (l ws : List ℕ) (n : ℕ) → length ws ≤ n → sets l 4 (wo
 words_all l ws n h = ap (λ (x : List ℕ). sets l 4 (word_bytes x)) (take_all n ws h)
 
 -- ---- a record's stores, one behind the other, write all of it
-
--- N
-pub node_put : (r l1 l2 l3 l4 : List ℕ) (x y z : Float) → l1 ≡ sets (set r 0 78) 1 (replicate 7 0) → l2 ≡ sets l1 8 (float_bytes x) → l3 ≡ sets l2 16 (float_bytes y) → l4 ≡ sets l3 24 (float_bytes z) → length r ≡ 32
-    → l4 ≡ node_record x y z
-node_put r l1 l2 l3 l4 x y z e1 e2 e3 e4 h =
-    e4
-    ∙ ap (λ (l : List ℕ). sets l 24 (float_bytes z)) (e3 ∙ ap (λ (l : List ℕ). sets l 16 (float_bytes y)) (e2 ∙ ap (λ (l : List ℕ). sets l 8 (float_bytes x)) e1))
-    ∙ sets_all r (node_record x y z) (sym h)
-
--- T
-pub last_put : (r l1 l2 l3 l4 : List ℕ) (f c : ℕ) (t : Float) → l1 ≡ sets (set (set r 0 84) 1 f) 2 (bytes 2 c) → l2 ≡ sets l1 4 (replicate 4 0) → l3 ≡ sets l2 8 (float_bytes t) → l4 ≡ sets l3 16 (replicate 16 0) → length r ≡ 32
-    → l4 ≡ last_record f c t
-last_put r l1 l2 l3 l4 f c t e1 e2 e3 e4 h =
-    e4
-    ∙ ap (λ (l : List ℕ). sets l 16 (replicate 16 0)) (e3 ∙ ap (λ (l : List ℕ). sets l 8 (float_bytes t)) (e2 ∙ ap (λ (l : List ℕ). sets l 4 (replicate 4 0)) e1))
-    ∙ sets_all r (last_record f c t) (sym h)
 
 -- fewer zeros
 drop-zeros : (m n : ℕ) → drop {A = ℕ} m (replicate n 0) ≡ replicate (n - m) 0

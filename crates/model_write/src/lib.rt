@@ -3,6 +3,7 @@
 
 ghost use Rattle.std.specs.Prelude.{◌≡◌, ◌+◌, ◌*◌, ◌-◌, ◌/◌, ◌%◌, ◌≤◌, ◌<◌, length, take, drop};
 ghost use Rattle.std.proofs.lemmas.List.Edits.{sets};
+ghost use Rattle.laws.specs.Bytes.{bytes};
 ghost use Rattle.laws.specs.Lists.{All, each};
 ghost use Rattle.mesh.specs.Model.{cells_of};
 ghost use Rattle.mesh.specs.Kinds.{kind_number};
@@ -19,56 +20,52 @@ use mesh::{Accepted, Cell, Checks, Kind, Model};
 use model_file::Letter;
 use refusals::Refusal;
 
-// ---- one record, in 32 bytes
+// ---- one record, 32 bytes
 
 // N
-fn put_node(r: &mut [u8], x: f64, y: f64, z: f64)
-    requires { length r.old ≡ 32 }
-    ensures { r.new ≡ node_record x y z }
+fn node_record(x: f64, y: f64, z: f64) -> [u8; 32]
+    ensures { result ≡ node_record x y z }
 {
+    let mut r = [0; 32];
     r[0] = Letter::Node.byte();
-    r[1..8].fill(0);
-    floats::put_f64(r, 8, x);
-    floats::put_f64(r, 16, y);
-    floats::put_f64(r, 24, z);
+    floats::put(&mut r, 8, x);
+    floats::put(&mut r, 16, y);
+    floats::put(&mut r, 24, z);
+    r
 }
 
 // T
-fn put_last(r: &mut [u8], checks: Checks, cap: u16, tolerance: f64)
-    requires { length r.old ≡ 32 }
-    ensures { r.new ≡ last_record checks.0 cap tolerance }
+fn last_record(checks: Checks, cap: u16, tolerance: f64) -> [u8; 32]
+    ensures { result ≡ last_record checks.0 cap tolerance }
 {
+    let mut r = [0; 32];
     r[0] = Letter::Last.byte();
     r[1] = checks.0;
-    floats::put_bytes(r, 2, 2, cap as u64);
-    r[4..8].fill(0);
-    floats::put_f64(r, 8, tolerance);
-    r[16..32].fill(0);
+    floats::put(&mut r, 2, cap);
+    floats::put(&mut r, 8, tolerance);
+    r
 }
 
-// A word of the model as 16 bits.
-fn narrow_of(w: u32) -> u64
-    ensures { result ≡ narrow w }
+// A word of the model as 16 bits: its low ones, which turn one separator into the other.
+fn low_bits(w: u32) -> u16
+    ensures { bytes 2 result ≡ bytes 2 (narrow w) }
 {
-    if w == mesh::SEPARATOR {
-        return 65535;
-    }
-    w as u64
+    (w % 0x1_0000) as u16
 }
 
 // N words from the j-th on, as two bytes each, the first of all at byte 4.
-fn put_some<const N: usize>(r: &mut [u8], words: &[u32], j: usize)
-    requires { (j + N ≤ length words.now) × (4 + 2 * length words.now ≤ length r.old) }
+fn put_some<const N: usize>(r: &mut [u8; 32], words: &[u32], j: usize)
+    requires { (j + N ≤ length words.now) × (length words.now ≤ 14) }
     ensures { r.new ≡ sets r.old (4 + 2 * j) (word_bytes (take N (drop j words.now))) }
 {
     for i in 0..N {
-        floats::put_bytes(r, 4 + 2 * (j + i), 2, narrow_of(words[j + i]));
+        floats::put(r, 4 + 2 * (j + i), low_bits(words[j + i]));
     }
 }
 
 // N more behind j, where there are as many; how many are put then.
-fn put_next<const N: usize>(r: &mut [u8], words: &[u32], j: usize) -> usize
-    requires { (j ≤ length words.now) × (length words.now < j + 2 * N) × (4 + 2 * length words.now ≤ length r.old) }
+fn put_next<const N: usize>(r: &mut [u8; 32], words: &[u32], j: usize) -> usize
+    requires { (j ≤ length words.now) × (length words.now < j + 2 * N) × (length words.now ≤ 14) }
     ensures up { j ≤ result }
     ensures inside { result ≤ length words.now }
     ensures few { length words.now < result + N }
@@ -82,8 +79,8 @@ fn put_next<const N: usize>(r: &mut [u8], words: &[u32], j: usize) -> usize
 }
 
 // All words of a record.
-fn put_words(r: &mut [u8], words: &[u32])
-    requires { (length words.now ≤ 14) × (4 + 2 * length words.now ≤ length r.old) }
+fn put_words(r: &mut [u8; 32], words: &[u32])
+    requires { length words.now ≤ 14 }
     ensures { r.new ≡ sets r.old 4 (word_bytes words.now) }
 {
     if words.len() == 14 {
@@ -97,32 +94,28 @@ fn put_words(r: &mut [u8], words: &[u32])
 }
 
 // C or K
-fn put_record(r: &mut [u8], letter: Letter, kind: u8, words: &[u32])
-    requires { (length r.old ≡ 32) × (length words.now ≤ 14) }
-    ensures { r.new ≡ word_record (letter_byte letter) kind words.now }
+fn word_record(letter: Letter, kind: u8, words: &[u32]) -> [u8; 32]
+    requires { length words.now ≤ 14 }
+    ensures { result ≡ word_record (letter_byte letter) kind words.now }
 {
-    r.fill(0);
+    let mut r = [0; 32];
     r[0] = letter.byte();
     r[1] = kind;
     r[2] = words.len() as u8;
-    put_words(r, words);
+    put_words(&mut r, words);
+    r
 }
 
 // ---- all records
 
 // All nodes, from the first byte on.
 fn put_nodes(out: &mut [u8], coords: &[f64])
-    requires { (length coords.now % 3 ≡ 0) × (32 * (length coords.now / 3) ≤ length out.old) }
+    requires { 32 * (length coords.now / 3) ≤ length out.old }
     ensures { out.new ≡ sets out.old 0 (join (node_records coords.now)) }
 {
-    for i in 0..coords.len() / 3 {
-        let at = 32 * i;
-        put_node(
-            &mut out[at..at + 32],
-            coords[3 * i],
-            coords[3 * i + 1],
-            coords[3 * i + 2],
-        );
+    let (nodes, _) = coords.as_chunks::<3>();
+    for (i, [x, y, z]) in nodes.iter().enumerate() {
+        floats::put(out, 32 * i, node_record(*x, *y, *z));
     }
 }
 
@@ -140,15 +133,14 @@ fn put_cell(out: &mut [u8], at: usize, cell: &Cell) -> usize
     ensures place { result ≡ at + 32 * (1 + (length cell.now.words.now - 1) / 14) }
 {
     let (first, rest) = cell.words.split_at(cell.words.len().min(14));
-    put_record(
-        &mut out[at..at + 32],
-        Letter::Cell,
-        number_of(cell.kind),
-        first,
+    floats::put(
+        out,
+        at,
+        word_record(Letter::Cell, number_of(cell.kind), first),
     );
     let mut p = at + 32;
     for part in rest.chunks(14) {
-        put_record(&mut out[p..p + 32], Letter::More, 0, part);
+        floats::put(out, p, word_record(Letter::More, 0, part));
         p += 32;
     }
     p
@@ -204,8 +196,7 @@ fn write_accepted(model: &Accepted, out: &mut [u8]) -> Result<usize, Refusal>
     }
     put_nodes(out, m.coords);
     put_cells(out, 32 * n, model);
-    let at = 32 * (n + c);
-    put_last(&mut out[at..at + 32], m.checks, m.cap, m.tolerance);
+    floats::put(out, 32 * (n + c), last_record(m.checks, m.cap, m.tolerance));
     Ok(size)
 }
 

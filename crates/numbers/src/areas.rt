@@ -28,7 +28,7 @@ fn test_of(bytes: &[u8]) -> Option<Test<'_>> {
         return None;
     }
     Some(Test {
-        tolerance: floats::le_f64(head, 8),
+        tolerance: floats::get(head, 8),
         coords,
         nodes,
         number: end[0],

@@ -21,7 +21,7 @@ fn set_of(bytes: &[u8]) -> Option<Set<'_>> {
         return None;
     }
     Some(Set {
-        tolerance: floats::le_f64(head, 8),
+        tolerance: floats::get(head, 8),
         coords,
         words,
         welded,

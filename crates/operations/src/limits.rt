@@ -60,13 +60,13 @@ fn judge(m: &Listed) -> u64 {
     test_support::read(m.ends, &mut ends);
     test_support::read(m.words, &mut words);
     let head = m.head;
-    let n = floats::le_four(head, 8) as usize;
+    let n = test_support::four(head, 8);
     let model = Model {
         coords: &coords[..n.min(196608)],
         kinds: m.kinds,
         ends: &ends[..(m.ends.len() / 4).min(65)],
         words: &words[..(m.words.len() / 4).min(65)],
-        tolerance: floats::le_f64(head, 16),
+        tolerance: floats::get(head, 16),
         checks: Checks(head[5]),
         cap: 0,
     };

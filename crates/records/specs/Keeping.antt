@@ -1,7 +1,6 @@
 -- For internal contracts: the fields of a finding as a value of the program; findings kept in a lent slice, the first so many records, and the count of all.
-use Rattle.std.specs.Prelude.{ℕ, ◌+◌, ◌-◌, ◌*◌, ◌/◌, List, [], ◌∷◌, ◌++◌, ◌≡◌, length, take}
+use Rattle.std.specs.Prelude.{ℕ, ◌+◌, ◌-◌, ◌*◌, ◌/◌, List, [], ◌∷◌, ◌≡◌, length, take}
 use Rattle.std.proofs.lemmas.List.Edits.{sets}
-use Rattle.laws.specs.Bytes.{bytes}
 use Rattle.laws.specs.Lists.{each}
 use Rattle.geometry.specs.declared.Point.{Point}
 use Rattle.findings.specs.Findings.{Rules, Finding}
@@ -13,10 +12,6 @@ use Rattle.records.specs.declared.Sink.{Sink}
 abbrev pub told : Record → Fields
 told r =
     record { kind = r.kind; first = r.first; second = r.second; a = r.a; b = r.b; count = r.count }
-
--- the bytes of all fields but the kind
-abbrev pub field_bytes : Fields → List ℕ
-field_bytes f = bytes 4 f.first ++ (bytes 4 f.second ++ (bytes 4 f.a ++ (bytes 4 f.b ++ bytes 4 f.count)))
 
 -- how many records a sink has room for
 abbrev pub room_of : Sink → ℕ

@@ -1,13 +1,11 @@
 // The 64-byte record of a finding: written, and its fields read.
 #![tactic(auto)]
 
-ghost use Rattle.std.specs.Prelude.{◌≡◌, ◌+◌, ◌*◌, ◌^◌, ◌≤◌, ◌<◌, length};
-ghost use Rattle.std.proofs.Math.Seq.{slice};
+ghost use Rattle.std.specs.Prelude.{◌≡◌, ◌+◌, ◌^◌, ◌≤◌, ◌<◌, length};
 ghost use Rattle.std.proofs.lemmas.List.Edits.{sets};
-ghost use Rattle.laws.specs.Bytes.{number};
-ghost use Rattle.findings.specs.Records.{point_bytes, record_bytes};
+ghost use Rattle.findings.specs.Records.{record_bytes};
 ghost use Rattle.records.specs.Read.{fields_in};
-ghost use Rattle.records.specs.Keeping.{told, field_bytes, KeptOne};
+ghost use Rattle.records.specs.Keeping.{told, KeptOne};
 
 // The kinds of findings; a record has the kind's number.
 #[derive(Clone, Copy, Debug, PartialEq, Eq)]
@@ -19,7 +17,7 @@ pub enum Kind {
 }
 
 // A finding's fields: kind, first cell, second cell, item a, item b, count. Read from lent bytes the kind may be any number.
-#[derive(Clone, Copy)]
+#[derive(Clone, Copy, Default)]
 pub struct Record {
     pub kind: u8,
     pub first: u32,
@@ -29,38 +27,21 @@ pub struct Record {
     pub count: u32,
 }
 
-// The five words of a record, in a slice of 64 bytes.
-fn put_words(s: &mut [u8], r: Record)
-    requires { length s.old ≡ 64 }
-    ensures { s.new ≡ sets s.old 4 (field_bytes (told r)) }
+// The bytes of a record.
+fn bytes_of(r: Record, centre: geometry::Point) -> [u8; 64]
+    ensures { result ≡ record_bytes (told r) centre }
 {
-    floats::put_bytes(s, 4, 4, r.first as u64);
-    floats::put_bytes(s, 8, 4, r.second as u64);
-    floats::put_bytes(s, 12, 4, r.a as u64);
-    floats::put_bytes(s, 16, 4, r.b as u64);
-    floats::put_bytes(s, 20, 4, r.count as u64);
-}
-
-// The centre of a record, in a slice of 64 bytes.
-fn put_centre(s: &mut [u8], p: geometry::Point)
-    requires { length s.old ≡ 64 }
-    ensures { s.new ≡ sets s.old 32 (point_bytes p) }
-{
-    floats::put_f64(s, 32, p.x);
-    floats::put_f64(s, 40, p.y);
-    floats::put_f64(s, 48, p.z);
-}
-
-// A record over a slice of 64 bytes.
-fn put_whole(s: &mut [u8], r: Record, centre: geometry::Point)
-    requires { length s.old ≡ 64 }
-    ensures { s.new ≡ record_bytes (told r) centre }
-{
-    floats::put_bytes(s, 0, 4, r.kind as u64);
-    put_words(s, r);
-    floats::put_bytes(s, 24, 8, 0);
-    put_centre(s, centre);
-    floats::put_bytes(s, 56, 8, 0);
+    let mut bytes = [0; 64];
+    bytes[0] = r.kind;
+    floats::put(&mut bytes, 4, r.first);
+    floats::put(&mut bytes, 8, r.second);
+    floats::put(&mut bytes, 12, r.a);
+    floats::put(&mut bytes, 16, r.b);
+    floats::put(&mut bytes, 20, r.count);
+    floats::put(&mut bytes, 32, centre.x);
+    floats::put(&mut bytes, 40, centre.y);
+    floats::put(&mut bytes, 48, centre.z);
+    bytes
 }
 
 // A record from `at` on; all else as before.
@@ -68,11 +49,11 @@ pub fn put_record(out: &mut [u8], at: usize, r: Record, centre: geometry::Point)
     requires { at + 64 ≤ length out.old }
     ensures { out.new ≡ sets out.old at (record_bytes (told r) centre) }
 {
-    let e = at + 64;
-    put_whole(&mut out[at..e], r, centre);
+    floats::put(out, at, bytes_of(r, centre));
 }
 
 // Where findings go: the records of the first are written, 64 bytes each, as long as there is room, and all are counted.
+// The count's bound is no field here: each function that keeps findings has its own, by how many it may add.
 #[derive(Drop)]
 pub struct Sink<'a> {
     records: &'a mut [u8],
@@ -102,25 +83,17 @@ impl<'a> Sink<'a> {
     }
 }
 
-// Four bytes from `at` on, as a word.
-fn word(s: &[u8], at: usize) -> u32
-    requires { at + 4 ≤ length s.now }
-    ensures { result ≡ number (slice at (at + 4) s.now) }
-{
-    floats::le_four(s, at) as u32
-}
-
-// The fields of the record from `at` on.
-pub fn fields_at(findings: &[u8], at: usize) -> Record
-    requires { at + 64 ≤ length findings.now }
-    ensures { told result ≡ fields_in findings.now at }
+// The fields of a record.
+#[tactic(auto, unfolding(crate::specs::Read::fields_in))]
+pub fn fields_of(bytes: &[u8; 64]) -> Record
+    ensures { told result ≡ fields_in bytes.now 0 }
 {
     Record {
-        kind: findings[at],
-        first: word(findings, at + 4),
-        second: word(findings, at + 8),
-        a: word(findings, at + 12),
-        b: word(findings, at + 16),
-        count: word(findings, at + 20),
+        kind: bytes[0],
+        first: floats::get(bytes, 4),
+        second: floats::get(bytes, 8),
+        a: floats::get(bytes, 12),
+        b: floats::get(bytes, 16),
+        count: floats::get(bytes, 20),
     }
 }

@@ -110,8 +110,9 @@ impl<'a> Text<'a> {
         requires { (64 * kept ≤ length findings.now) × (self.old.at + 128 * kept ≤ length self.old.out.now) }
         ensures { Wrote (128 * kept) (each line_of (fields_kept findings.now kept)) self.old self.new }
     {
-        for i in 0..kept {
-            self.put_line(records::fields_at(findings, 64 * i));
+        let (records, _) = findings.as_chunks::<64>();
+        for bytes in &records[..kept] {
+            self.put_line(records::fields_of(bytes));
         }
     }
 

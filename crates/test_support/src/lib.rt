@@ -5,6 +5,7 @@ ghost use Rattle.std.specs.Prelude.{◌+◌, ◌^◌, ◌<◌, ◌≤◌, length
 ghost use Rattle.std.specs.Iterator.{at_most};
 
 use arrayvec::ArrayString;
+use floats::Stored;
 use refusals::Refusal;
 use std::fmt::Write;
 use std::marker::PhantomData;
@@ -90,24 +91,8 @@ pub fn four(s: &[u8], at: usize) -> usize
     requires { at + 4 ≤ length s.now }
     ensures { result < 2 ^ 32 }
 {
-    floats::le_four(s, at) as usize
-}
-
-// What stands in N bytes.
-pub trait Stored<const N: usize>: Copy {
-    fn from_bytes(bytes: &[u8; N]) -> Self;
-}
-
-impl Stored<8> for f64 {
-    fn from_bytes(bytes: &[u8; 8]) -> f64 {
-        floats::le_f64(bytes, 0)
-    }
-}
-
-impl Stored<4> for u32 {
-    fn from_bytes(bytes: &[u8; 4]) -> u32 {
-        u32::from_le_bytes(*bytes)
-    }
+    let n: u32 = floats::get(s, at);
+    n as usize
 }
 
 // Each item becomes what the next N bytes hold, as far as the bytes go.

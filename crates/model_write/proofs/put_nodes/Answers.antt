@@ -1,19 +1,25 @@
-use Prim.Native.Nat.{◌*◌, ◌+◌}
-use mathlib.Core.Path.{refl, sym, ap, ◌∙◌}
-use native.Mathlib.Omega.{arith}
+use Prim.Native.Nat.{ℕ, ◌+◌, ◌*◌}
+use mathlib.Core.List.{List}
+use mathlib.Core.Path.{sym, ap, ◌∙◌}
 use lib.ListN.{drop}
 use lib.Seq.{sets}
-use Rattle.model_file.specs.File.{node_records}
-use Rattle.model_file.specs.Steps.{join}
-use Rattle.model_write.proofs.Passes.{record_put, nodes_more, nodes_done}
+use Rattle.laws.specs.Lists.{each}
+use Rattle.model_write.proofs.Passes.{record_of_node, nodes_chunked, nodes_more, nodes_done}
 use Rattle.model_write.proofs.put_nodes.Goals as goal
 
 pub loop-i-preserved : goal.loop-i-preserved
 loop-i-preserved c =
-    let a = c.args in
+    let ts = c.as_chunks.result.0.now in
     let l = c.loop-i in
-    let h = nodes_more a.coords.now l.i (omega arith) l.out in
-    ap (λ x. sets x (32 * (l.i + 1)) (join (node_records (drop (3 * (l.i + 1)) a.coords.now)))) (record_put l.out _ _ (32 * l.i) c.put_node.ensures refl (omega arith)) ∙ h ∙ l.invariant
+    ap (λ (x : List ℕ). sets x (32 * (l.i + 1)) (each record_of_node (drop (l.i + 1) ts))) (c.put.ensures ∙ ap (sets l.out (32 * l.i)) c.node_record.ensures)
+    ∙ nodes_more ts l.i l.out c.loop-i-test.true
+    ∙ l.invariant
 
 pub returns : goal.returns
-returns c = sym (nodes_done c.args.coords.now c.loop-i.i c.loop-i.out c.requires.0 (omega arith)) ∙ c.loop-i.invariant
+returns c =
+    let a = c.args in
+    let k = c.as_chunks in
+    let l = c.loop-i in
+    sym (nodes_done k.result.0.now l.i l.out c.loop-i-test.false)
+    ∙ l.invariant
+    ∙ ap (sets a.out.now 0) (ap (each record_of_node) k.ensures.front ∙ nodes_chunked a.coords.now)

@@ -7,4 +7,4 @@ pub loop-i-preserved : goal.loop-i-preserved
 loop-i-preserved g c =
     let a = c.args in
     let l = c.loop-i in
-    c.put_bytes.ensures ∙ words_more a.r.now l.r a.words.now a.j l.i _ (omega arith) c.narrow_of.ensures l.invariant
+    c.put.ensures ∙ words_more a.r.now l.r a.words.now a.j l.i _ (omega arith) c.low_bits.ensures l.invariant

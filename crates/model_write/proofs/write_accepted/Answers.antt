@@ -1,7 +1,6 @@
-use Prim.Native.Nat.{ℕ, ◌+◌, ◌*◌, ◌≤◌}
-use mathlib.Core.Path.{refl, ap, ◌∙◌}
+use Prim.Native.Nat.{ℕ, ◌+◌, ◌*◌}
+use mathlib.Core.Path.{ap, ◌∙◌}
 use native.Mathlib.Omega.{arith}
-use lib.ListN.{length}
 use lib.Seq.{sets}
 use Rattle.laws.specs.Lists.{each}
 use Rattle.refusals.specs.declared.Refusal.TheVariants.{Room}
@@ -9,9 +8,7 @@ use Rattle.mesh.specs.Lent.{lent}
 use Rattle.mesh.specs.Model.{cells_of}
 use Rattle.model_file.proofs.Accepting.{accepted}
 use Rattle.model_file.specs.File.{cell_records}
-use Rattle.model_file.specs.Records.{last_record}
 use Rattle.model_file.specs.Steps.{join}
-use Rattle.model_write.proofs.Passes.{record_put}
 use Rattle.model_write.proofs.Answering.{few_records, encode_long, three_passes, refused_room, writing_refused, writing_done}
 use Rattle.model_write.proofs.write_accepted.Goals as goal
 
@@ -39,7 +36,7 @@ returns-then-out-size c =
 pub put_nodes-requires : goal.put_nodes-requires
 put_nodes-requires c =
     let m = c.args.model.now in
-    ((accepted (lent m.model) m.accepted).threes, omega (arith, c.if-out-size.false, c.node_count-n.ensures))
+    omega (arith, c.if-out-size.false, c.node_count-n.ensures)
 
 pub returns : goal.returns
 returns c =
@@ -47,10 +44,8 @@ returns c =
     let m = lent a.model.now.model in
     let n = c.count_cells-c.ensures in
     let k = c.node_count-n.ensures in
-    let at : ℕ = 32 * (c.node_count-n.result + c.count_cells-c.result) in
-    let room : at + 32 ≤ length c.put_cells.new.out = omega (arith, c.if-out-size.false, c.put_nodes.auto.out, c.put_cells.auto.out) in
     let e1 = c.put_nodes.ensures in
     let e2 = c.put_cells.ensures ∙ ap (λ (x : ℕ). sets c.put_nodes.new.out (32 * x) (join (each cell_records (cells_of m)))) k in
-    let e3 = record_put c.put_cells.new.out _ _ at c.put_last.ensures refl room ∙ (λ i. sets c.put_cells.new.out (32 * (k i + n i)) (last_record m.flags m.cap m.tolerance)) in
+    let e3 = c.put.ensures ∙ (λ i. sets c.put_cells.new.out (32 * (k i + n i)) (c.last_record.ensures i)) in
     writing_done m a.out.now c.requires _ _ a.model.now.accepted (omega (arith, n, k, encode_long m)) (omega (arith, c.if-out-size.false, n, k, encode_long m))
     (three_passes m a.out.now c.put_nodes.new.out c.put_cells.new.out _ e1 e2 e3)

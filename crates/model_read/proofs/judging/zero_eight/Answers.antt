@@ -6,4 +6,4 @@ use Rattle.model_read.proofs.judging.zero_eight.Goals as goal
 pub returns : goal.returns
 returns c =
     let a = c.args in
-    zero_read (slice a.at (a.at + 8) a.r.now) c.le_u64.result c.le_u64.ensures
+    zero_read (slice a.at (a.at + 8) a.r.now) c.get.result c.get.ensures

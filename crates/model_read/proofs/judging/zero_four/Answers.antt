@@ -6,4 +6,4 @@ use Rattle.model_read.proofs.judging.zero_four.Goals as goal
 pub returns : goal.returns
 returns c =
     let a = c.args in
-    zero_read (slice a.at (a.at + 4) a.r.now) c.le_four.result c.le_four.ensures.0
+    zero_read (slice a.at (a.at + 4) a.r.now) c.get.result c.get.ensures

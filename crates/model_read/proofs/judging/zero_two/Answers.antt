@@ -6,4 +6,4 @@ use Rattle.model_read.proofs.judging.zero_two.Goals as goal
 pub returns : goal.returns
 returns c =
     let a = c.args in
-    zero_read (slice a.at (a.at + 2) a.r.now) c.le_two.result c.le_two.ensures.0
+    zero_read (slice a.at (a.at + 2) a.r.now) c.get.result c.get.ensures
