@@ -1,25 +1,18 @@
--- What later orders ask of the full list: one cell at a time; one cell withdrawn.
-use Prim.Native.Nat.{ℕ, suc, ◌<◌}
+-- What later orders ask of the full list: one cell withdrawn.
+use Prim.Native.Nat.{ℕ, suc}
 use mathlib.Core.Path.{◌≡◌, refl, sym, ap, ap₂, ◌∙◌}
 use mathlib.Core.Logic.{◌⊎◌, inl, inr}
 use mathlib.Core.Bool.{Bool, true, false, not, ◌||◌, or-true}
 use mathlib.Core.List.{List, [], ◌∷◌, ◌++◌, append_assoc, append-nil}
 use lib.Dec.{leb, eqb}
-use lib.ListN.{length, get_or, take, drop}
-use lib.Seq.{take-suc, drop-cons, take-length, drop-length}
 use Rattle.laws.specs.Lists.{only_if, any, each, walk, keep, sort, eql}
 use Rattle.laws.proofs.Tests.{tested, eqb_self}
-use Rattle.laws.proofs.ListLaws.{each_append, walk_append, any_append, any-map, keep_append, eql_self}
+use Rattle.laws.proofs.ListLaws.{each_append, any_append, any-map, keep_append, eql_self}
 use Rattle.mesh.specs.Rings.{Cell, Face, faces_from, faces_of, faces, same_key}
 use Rattle.mesh.proofs.ModelTable.{rings_from}
 use Rattle.findings.specs.Findings.{Rules, Finding, bowtie, overfull, partly, repeated, over_of, over_at, partly_of, pair_at, kind1, kind2, kind3, kind4, full}
 use Rattle.findings.proofs.Laws.{only_if_nil, keep_nothing, Every, every_map}
 use Rattle.findings.proofs.ByKind.{every_pair}
-
-module _ {ℓ κ} {A : Type ℓ} {B : Type κ} (h : List A → A → List A → List B) where
-  -- what a walk has given after i elements
-  unfoldable pub up_to : ℕ → List A → List B
-  up_to i l = walk (λ p x q. h p x (q ++ drop i l)) [] (take i l)
 
 -- a finding that names neither the cell c nor a key of its faces
 unfoldable pub away : Rules → Cell → Finding → Bool
@@ -27,21 +20,6 @@ away R c (bowtie d) = not (eqb d c.num)
 away R c (overfull c₁ c₂ f n k os) = not (any (λ r. eql k (sort leb r)) (R.rings c.raw))
 away R c (partly c₁ c₂ a b ns) = not (eqb c₁ c.num || eqb c₂ c.num)
 away R c (repeated d a b) = not (eqb d c.num)
-
--- ---- one element at a time
-
-module _ {ℓ κ} {A : Type ℓ} {B : Type κ} (h : List A → A → List A → List B) where
-  -- one element more
-  pub up_to_suc : (i : ℕ) (l : List A) (d : A) → i < length l → up_to h (suc i) l ≡ up_to h i l ++ h (take i l) (get_or l i d) (drop (suc i) l)
-  unfolding up_to
-  up_to_suc i l d o =
-      rw (take-suc l i d o, walk_append (λ p x q. h p x (q ++ drop (suc i) l)) [] (take i l) (get_or l i d ∷ []), append-nil (h (take i l) (get_or l i d) (drop (suc i) l)))
-      (simp (append_assoc, drop-cons l i d o))
-
-  -- all of them
-  pub up_to_all : (l : List A) → up_to h (length l) l ≡ walk h [] l
-  unfolding up_to
-  up_to_all l = rw (take-length l, drop-length l) (simp append-nil)
 
 -- ---- one element taken out: what passes the test t is the same without it
 

@@ -32,7 +32,7 @@ use Rattle.findings.specs.declared.Totals.{Totals}
 use Rattle.renumber.specs.Renumbering.{Used, word_by, renamed, record_by}
 use Rattle.renumber.specs.Loose.{LooseApart, with_behind}
 use Rattle.renumber.proofs.Models.{used_low, welds_go}
-use Rattle.renumber.proofs.Renumbered.{fields_renamed, accepted_renumbered, welds_renumbered, full_renumbered, kept_renumbered, report_renumbered}
+use Rattle.renumber.proofs.Renumbered.{fields_renamed, welds_renumbered, full_renumbered, kept_renumbered, report_renumbered}
 
 -- ---- each node under its own number
 
@@ -65,10 +65,6 @@ records_own R l = each_ext (λ x. ap (λ r. record_bytes r (centre_in R x)) (sym
 -- ---- loose nodes changed
 
 module _ (m n : Model) (h : LooseApart m n) (e : model_refusal m ≡ 0) where
-  -- it is accepted too
-  pub loose_accepted : model_refusal n ≡ 0
-  loose_accepted = accepted_renumbered own m n h e
-
   -- every node keeps its welded number
   pub loose_welds : (a : ℕ) → welded_by (welds_of n) a ≡ welded_by (welds_of m) a
   loose_welds a = go (tested (elem a (used_nodes (cells_of m))))
