@@ -1,26 +1,26 @@
 // Recorded roots: pairs of patterns, a value and its root.
-ghost use Rattle.std.specs.Prelude.{◌+◌, ◌≤◌, length};
-
 use std::io;
 use std::rt::Files;
 
 // The root of the first eight bytes is the pattern that the next eight hold.
-fn agrees(pair: &[u8]) -> bool
-    requires { 16 ≤ length pair.now }
-{
-    let got = floats::to_bits(floats::sqrt(floats::get(pair, 0)));
+fn agrees(pair: &[u8; 16]) -> bool {
     let wanted: u64 = floats::get(pair, 8);
-    got == wanted
+    floats::to_bits(floats::sqrt(floats::get(pair, 0))) == wanted
 }
 
-// The roots of data/: how many pairs were run, and how many agree; bytes that make no pair are left out.
+// How many pairs the list has, and how many agree; bytes that make no pair are left out.
+fn tally(list: &[u8]) -> (usize, usize) {
+    let (pairs, _) = list.as_chunks::<16>();
+    let agree = pairs.iter().filter(|pair| agrees(pair)).count();
+    (pairs.len(), agree)
+}
+
+// The roots of data/.
 pub fn run<R: Files + Print>(rt: &R) -> io::Result<()> {
     let mut buf = [0u8; 65536];
-    let pairs = match test_support::read_file(rt, "roots", &mut buf) {
-        Some(list) => list.chunks_exact(16),
-        None => [].chunks_exact(16),
+    let (run, agree) = match test_support::read_file(rt, "roots", &mut buf) {
+        Some(list) => tally(list),
+        None => (0, 0),
     };
-    let run = pairs.len();
-    let agree = pairs.filter(|pair| agrees(pair)).count();
     println!(rt; "roots {run} agree {agree}")
 }

@@ -23,6 +23,7 @@ fn report_on(model: &Model, findings: &mut [u8], work: &mut [u32], out: &mut [u8
 }
 
 // The whole run, in lent lists: there is room in them for all that an input can hold, so what was found is a model.
+// They are handed one by one: a struct of them would be made at each call only to be taken apart here.
 pub fn run_in(
     input: &[u8],
     coords: &mut [f64],

@@ -110,8 +110,8 @@ impl<'a> Text<'a> {
         requires { (64 * kept ≤ length findings.now) × (self.old.at + 128 * kept ≤ length self.old.out.now) }
         ensures { Wrote (128 * kept) (each line_of (fields_kept findings.now kept)) self.old self.new }
     {
-        let (lent, _) = findings.as_chunks::<64>();
-        for bytes in &lent[..kept] {
+        let (records, _) = findings.as_chunks::<64>();
+        for bytes in &records[..kept] {
             self.put_line(records::fields_of(bytes));
         }
     }
@@ -140,7 +140,7 @@ pub fn put_refused(out: &mut [u8], at: usize, refusal: Refusal) -> usize
     text.at
 }
 
-// The text of a report in front of lent bytes; the place behind it.
+// The text of a report in front of lent bytes; the place behind it. Total and kept are two numbers, as C hands them.
 pub fn put_report(out: &mut [u8], findings: &[u8], total: u64, kept: usize) -> usize
     requires { (64 * kept ≤ length findings.now) × (128 * kept + 64 ≤ length out.old) }
     ensures { Stored out.old 0 (report_text (fields_kept findings.now kept) total kept) out.new result × (result ≤ length out.old) }

@@ -1,15 +1,15 @@
 -- `report_text::Text::put_lines` meets its contract: a line behind those of the records before.
 use Prim.Native.Nat.{ℕ, ◌*◌, ◌/◌, ◌<◌}
-use mathlib.Core.List.{List, []}
 use mathlib.Core.Path.{◌≡◌, ap, ◌∙◌, subst}
+use mathlib.Core.List.{List, []}
 use native.Mathlib.Omega.{arith}
 use lib.ListN.{length, get_or}
 use lib.Seq.{length-take-le}
 use Rattle.std.proofs.lemmas.List.{get_or-take}
 use Rattle.laws.specs.Lists.{each}
-use Rattle.records.specs.Keeping.{told}
 use Rattle.records.specs.Read.{fields_in}
 use Rattle.records.proofs.Back.{fields_chunk}
+use Rattle.records.specs.Keeping.{told}
 use Rattle.report.specs.Text.{line_of}
 use Rattle.report_text.specs.Stored.{Wrote, fields_kept}
 use Rattle.report_text.proofs.Reports.{line_next}

@@ -1,4 +1,4 @@
--- The lines of the first records are written.
+-- The lines of the records so far are written.
 use Prim.Native.Nat.{◌*◌}
 use Rattle.laws.specs.Lists.{each}
 use Rattle.report.specs.Text.{line_of}
