@@ -33,17 +33,9 @@ fn keep_bow(t: &Tables, c: usize, sink: &mut Sink<'_>)
     let r = Record {
         kind: Kind::BowTie as u8,
         first: c as u32,
-        second: 0,
-        a: 0,
-        b: 0,
-        count: 0,
+        ..Record::default()
     };
-    let origin = geometry::Point {
-        x: 0.0,
-        y: 0.0,
-        z: 0.0,
-    };
-    sink.keep(r, origin);
+    sink.keep(r, geometry::Point::default());
 }
 
 // Each kind's pass is a loop of its own: one over a closure would have to say of any closure what its calls leave in the slice, the tally

@@ -21,11 +21,6 @@ use Rattle.geometry.specs.Steps.{InNodes}
 use Rattle.geometry.specs.Coordinates.{node_count}
 use Rattle.seek.specs.Candidates.{common}
 
--- the library's test of a member
-pub member : (v : ℕ) (l : List ℕ) → elem v l ≡ list_any (λ y. eqb y v) l
-member v [] = refl
-member v (x ∷ l) = ap₂ (λ (a b : Bool). a || b) (eqb_comm v x) (member v l)
-
 -- what one more node adds
 grown : (A B : List ℕ) (i : ℕ) → i < length A → common (take (i + 1) A) B ≡ common (take i A) B ++ only_if (elem (get_or A i 0) B) (get_or A i 0 ∷ [])
 unfolding common

@@ -1,6 +1,6 @@
 -- The members of a list of numbers: of a sorted list, of one with each number once, and below a bound.
 use Prim.Native.Nat.{ℕ, ◌+◌, ◌<◌}
-use mathlib.Core.Path.{◌≡◌, refl, sym, ap, ◌∙◌}
+use mathlib.Core.Path.{◌≡◌, refl, sym, ap, ap₂, ◌∙◌}
 use mathlib.Core.Logic.{◌⊎◌, inl, inr, ⊎_elim}
 use mathlib.Core.Bool.{Bool, true, false, ◌&&◌, ◌||◌, false≢true}
 use mathlib.Core.List.{List, [], ◌∷◌}
@@ -9,10 +9,16 @@ use borrow.Author.Tests.{eqb-true, le-leb, lt-ltb}
 use lib.Dec.{leb, eqb}
 use Rattle.laws.specs.Lists.{keep, insert, sort, distinct, elem, up_from}
 use Rattle.laws.specs.Merging.{AllBelow}
-use Rattle.laws.proofs.Tests.{both_ways, or_swap}
+use Rattle.std.specs.List.{list_any}
+use Rattle.laws.proofs.Tests.{both_ways, or_swap, eqb_comm}
 use Rattle.std.proofs.lemmas.Bool.{and_parts, cases_Bool, or_cases}
 use Rattle.laws.proofs.Bounds.{below-add}
 use Rattle.laws.proofs.Ascending.{elem-add, elem-keep, elem-up_from, asc_ext, asc_keep, asc_up_from, asc_distinct}
+
+-- the library's test of a member
+pub member : (v : ℕ) (l : List ℕ) → elem v l ≡ list_any (λ y. eqb y v) l
+member v [] = refl
+member v (x ∷ l) = ap₂ (λ (a b : Bool). a || b) (eqb_comm v x) (member v l)
 
 module _ (le : ℕ → ℕ → Bool) (n : ℕ) where
   -- a member of a list with x put in its place

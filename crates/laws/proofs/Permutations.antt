@@ -1,10 +1,8 @@
 -- Permutations of lists.
-use Prim.Native.Nat.{suc}
 use mathlib.Core.Path.{◌≡◌, refl, ap, ◌∙◌, subst}
 use mathlib.Core.Bool.{Bool}
 use mathlib.Core.List.Permᴰ
 use mathlib.Core.List.{List, [], ◌∷◌, ◌++◌, map, append_assoc, Permᴰ}
-use lib.ListN.{length}
 use Rattle.laws.specs.Lists.{each, insert, sort}
 use Rattle.laws.proofs.Sorting.{Total, insert_swap}
 

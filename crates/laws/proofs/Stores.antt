@@ -1,15 +1,15 @@
 -- A run of stores, `sets l o xs`: how it grows by one, and what is read after it. A law asks that the run is within the list only where it must.
-use mathlib.Core.Path.{◌≡◌, refl, sym, ap, ◌∙◌}
+use mathlib.Core.Path.{◌≡◌, refl, sym, ap, ap₂, ◌∙◌}
 use mathlib.Core.List.{List, [], ◌∷◌, ◌++◌, append_assoc, append-nil}
 use Prim.Native.Nat.{ℕ, zero, suc, ◌+◌, ◌-◌, ◌≤◌, ◌<◌, min}
 use native.Mathlib.Nat.{add-zero, zero-add, add-suc, suc-add}
 use native.Mathlib.Numerals.{add-one}
 use native.Mathlib.Omega.{arith}
 use mathlib.Core.Logic.{◌⊎◌, inl, inr}
-use lib.ListN.{length, get_or, set, take, drop, replicate, length-set, length-drop, length-append, length-replicate, take-append-drop}
+use lib.ListN.{length, get_or, set, take, drop, replicate, length-set, length-drop, length-replicate, take-append-drop}
 use Rattle.laws.specs.Merging.{region}
 use Rattle.std.proofs.lemmas.Bool.{cases_lt}
-use lib.Seq.{slice, sets, sets-eq, length-sets, set-set, set_comm, get_or-take, get_or-drop, get_or-set_same, drop-set-add, take-suc-set, take-add, take-take, drop-drop, take-suc, length-take-le, get_or-set_other, take-set-le, drop-set-lt, drop_at, take-append_seam, drop-append_seam, take_all, drop-length, take-nil}
+use lib.Seq.{slice, sets, sets-eq, length-sets, set-set, set_comm, get_or-take, get_or-drop, get_or-set_same, drop-set-add, take-suc-set, take-add, take-take, drop-drop, take-suc, length-take-le, get_or-set_other, take-set-le, drop-set-lt, drop_at, take-append_seam, take_all, drop-length, take-nil}
 
 module _ {A : Type 0} where
   -- one store more
@@ -221,15 +221,21 @@ module _ {A : Type 0} where
       go (inl h) = let e : min k (length l) ≡ k = omega (arith, h) in ap (λ (i : ℕ). take i l) e
       go (inr h) = let e : min k (length l) ≡ length l = omega (arith, h) in ap (λ (i : ℕ). take i l) e ∙ take_all (length l) l (omega arith) ∙ sym (take_all k l h)
 
--- the first n words were lent out, came back as `part`, and are zero now
-pub zero_front : (work part work' : List ℕ) (n : ℕ) → n ≤ length work → length part ≡ n → work' ≡ sets (part ++ drop n work) 0 (replicate n 0)
-    → work' ≡ replicate n 0 ++ drop (length (replicate {A = ℕ} n 0)) work
-zero_front work part work' n h e p =
-    let zeros = length-replicate {A = ℕ} n 0 in
-    let long : length (part ++ drop n work) ≡ length work = length-append part (drop n work) ∙ omega (arith, e, length-drop n work, h) in
-    p
-    ∙ sets_front (part ++ drop n work) (replicate n 0) (omega (arith, zeros, long, h))
-    ∙ ap (λ (l : List ℕ). replicate n 0 ++ l) (ap (λ (k : ℕ). drop k (part ++ drop n work)) (zeros ∙ sym e) ∙ drop-append_seam part (drop n work) ∙ ap (λ (k : ℕ). drop k work) (sym zeros))
+-- n words from o on, up to e, lent out and filled with v
+pub filled_part : {part : List ℕ} (w : List ℕ) (o e n v : ℕ) → e - o ≡ n → o + n ≤ length w → part ≡ replicate (length (take (e - o) (drop o w))) v
+    → take o w ++ (part ++ drop (e - o) (drop o w)) ≡ sets w o (replicate n v)
+filled_part {part = part} w o e n v d h z =
+    let long : length (take n (drop o w)) ≡ n = length-region o n w h in
+    let all : part ≡ replicate n v = z ∙ ap (λ (k : ℕ). replicate (length (take k (drop o w))) v) d ∙ ap (λ (k : ℕ). replicate k v) long in
+    let f : o + n - o ≡ n = omega arith in
+    ap₂ (λ (x : List ℕ) (k : ℕ). take o w ++ (x ++ drop k (drop o w))) all (d ∙ sym f) ∙ lent_sets n w (replicate n v) o (length-replicate n v) h
+
+-- the first n words, lent out and filled with v
+pub filled_front : {part : List ℕ} (w : List ℕ) (n v : ℕ) → n ≤ length w → part ≡ replicate (length (take n w)) v → part ++ drop n w ≡ sets w 0 (replicate n v)
+filled_front {part = part} w n v h z =
+    let long = length-replicate {A = ℕ} n v in
+    let all : part ≡ replicate n v = z ∙ ap (λ (k : ℕ). replicate k v) (length-take-le n w h) in
+    ap (λ (x : List ℕ). x ++ drop n w) all ∙ ap (λ (k : ℕ). replicate n v ++ drop k w) (sym long) ∙ sym (sets_front w (replicate n v) (omega (arith, long, h)))
 
 -- n words cleared in front, where nothing behind the first f had changed
 pub cleared : (w v : List ℕ) (f need : ℕ) → drop f v ≡ drop f w → f ≤ need → need ≤ length w → length v ≡ length w → sets v 0 (replicate need 0) ≡ sets w 0 (replicate need 0)

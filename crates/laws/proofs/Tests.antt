@@ -1,11 +1,10 @@
 -- Tests. Which way one went (`cases_Bool`), what an `or` and an `and` say (`or_parts`, `and_parts`) and which of two numbers is lower
 -- (`cases_lt`) are in the kit's lemmas.Bool; what a test on numbers says is in `borrow.Author.Tests`.
-use Prim.Native.Nat.{ℕ, ◌≤◌, ◌<◌}
+use Prim.Native.Nat.{ℕ}
 use mathlib.Core.Path.{◌≡◌, refl, sym, ◌∙◌}
-use mathlib.Core.Logic.{◌⊎◌, inl, inr, ⊎_elim}
-use mathlib.Core.Bool.{Bool, true, false, ◌&&◌, ◌||◌, false≢true, true≢false}
-use borrow.Author.Tests.{ltb-true, ltb-false, eqb-true, eq-eqb}
-use lib.Dec.{ltb, eqb}
+use mathlib.Core.Bool.{Bool, true, false, ◌||◌, true≢false}
+use borrow.Author.Tests.{eqb-true, eq-eqb}
+use lib.Dec.{eqb}
 
 -- no test goes both ways
 pub clash {ℓ} : {A : Type ℓ} {b : Bool} → b ≡ true → b ≡ false → A

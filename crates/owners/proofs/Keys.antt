@@ -10,7 +10,7 @@ use lib.ListN.{length, get_or}
 use Rattle.ascending.proofs.Adding.{get_or_in}
 use Rattle.std.specs.Cmp.Lexicographic.{pointwise}
 use Rattle.laws.specs.Lists.{eql, elem, sort}
-use Rattle.laws.proofs.Members.{elem-sort}
+use Rattle.laws.proofs.Members.{elem-sort, member}
 use Rattle.laws.proofs.Tests.{eqb_comm}
 use Rattle.std.proofs.lemmas.Bool.{cases_Bool, or_parts}
 use Rattle.laws.proofs.ListLaws.{eql_true}
@@ -30,13 +30,6 @@ eql-length a b z = go (cases_Bool (eql a b))
     go (inl e) = absurd (z (ap length (eql_true a b e)))
     go (inr e) = e
 
--- a word that the library's test does not find is no member
-no_member : (w : ℕ) (l : List ℕ) → list_any (λ y. eqb y w) l ≡ false → elem w l ≡ false
-no_member w [] e = refl
-no_member w (y ∷ l) e =
-    let p = or_parts (eqb y w) (list_any (λ y. eqb y w) l) e in
-    rw (eqb_comm w y, p.0) (no_member w l p.1)
-
 -- a key that lacks a word of a ring is not the ring, sorted
 pub other_words : (key ring : List ℕ) (i w : ℕ) → i < length ring → w ≡ get_or ring i 0 → list_any (λ y. eqb y w) key ≡ false → false ≡ eql key (sort leb ring)
 other_words key ring i w h is e = go (cases_Bool (eql key (sort leb ring)))
@@ -44,5 +37,5 @@ other_words key ring i w h is e = go (cases_Bool (eql key (sort leb ring)))
     go : (eql key (sort leb ring) ≡ true) ⊎ (eql key (sort leb ring) ≡ false) → false ≡ eql key (sort leb ring)
     go (inl t) =
         let has = ap (λ (v : ℕ). elem v ring) is ∙ get_or_in ring i h in
-        absurd (false≢true (sym (no_member w key e) ∙ ap (elem w) (eql_true key (sort leb ring) t) ∙ elem-sort leb w ring ∙ has))
+        absurd (false≢true (sym (member w key ∙ e) ∙ ap (elem w) (eql_true key (sort leb ring) t) ∙ elem-sort leb w ring ∙ has))
     go (inr f) = sym f

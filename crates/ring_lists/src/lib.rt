@@ -22,7 +22,7 @@ fn store(accepted: &Accepted, raw: &mut [u32], welded: &mut [u32], work: &mut [u
     let r = rings::put_cells(accepted, raw, 0);
     welding::weld_named(m.coords, m.words, m.tolerance, work, n);
     welding::put_welded(&raw[..r], work, n + n, n, welded);
-    snap::clear(work, 0, accepted.work_needed());
+    work[..accepted.work_needed()].fill(0);
 }
 
 // Fills the first words of both lists with all rings in face order; answers how many words each list now holds.

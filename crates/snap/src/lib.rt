@@ -18,14 +18,6 @@ ghost use Rattle.snap.specs.Steps.{But, number_of, numbers};
 
 pub use space::Space;
 
-// n words from k on are 0.
-pub fn clear(work: &mut [u32], k: usize, n: usize)
-    requires { k + n ≤ length work.old }
-    ensures { work.new ≡ sets work.old k (replicate n 0) }
-{
-    work[k..k + n].fill(0);
-}
-
 // The number that the mark w gives node i. A mark is one word of the lent work, where an Option would take two: 0 for none, else the
 // number plus one.
 #[tactic(auto, unfolding(crate::specs::Steps::number_of))]

@@ -6,10 +6,9 @@ use native.Mathlib.Omega.{arith}
 use lib.ListN.{length, drop}
 use lib.Seq.{length-take-le}
 use Rattle.std.specs.Prelude.{Ok, Err}
-use Rattle.std.proofs.lemmas.Result.{err_from_is_err_and}
 use Rattle.laws.proofs.Lent.{cleared_front}
 use Rattle.refusals.specs.declared.Refusal.TheVariants.{Work, Number}
-use Rattle.refusals.proofs.Told.{number-positive, told_ok, told_err}
+use Rattle.refusals.proofs.Told.{number-positive, told_ok, told_err, err_passed}
 use Rattle.mesh.specs.Model.{Model}
 use Rattle.mesh.specs.Lent.{lent}
 use Rattle.mesh.specs.Acceptance.{faces_in, work_needed}
@@ -24,10 +23,9 @@ pub returns-in_err-m : goal.returns-in_err-m
 returns-in_err-m c =
     let a = c.args in
     let m = lent a.model.now in
-    let p = err_from_is_err_and c.from_residual.result c.from_residual.ensures.1 in
     let e = c.in_err-m.field-0.0 in
     let n = told_err {A = Accepted} (λ a. lent a.model) e _ _ c.in_err-m.ensures in
-    rw (p.1, p.2) (refused_so m a.face a.work.now (by_nodes a.way) a.found.now e (n ∙ sym (row_model m a.face a.work.now (λ z. omega (arith, number-positive e, n, z)))))
+    rw (err_passed _ c.from_residual.ensures.1) (refused_so m a.face a.work.now (by_nodes a.way) a.found.now e (n ∙ sym (row_model m a.face a.work.now (λ z. omega (arith, number-positive e, n, z)))))
 
 pub returns-then-work-need : goal.returns-then-work-need
 returns-then-work-need c =

@@ -3,7 +3,8 @@ use Prim.Native.Nat.{◌+◌}
 use mathlib.Core.Path.{◌≡◌, refl, sym, ◌∙◌}
 use lib.ListN.{get_or}
 use Rattle.laws.specs.Lists.{elem}
-use Rattle.common_nodes.proofs.Picking.{Picked, member, picked_start, picked_in, picked_out, picked_as}
+use Rattle.laws.proofs.Members.{member}
+use Rattle.common_nodes.proofs.Picking.{Picked, picked_start, picked_in, picked_out, picked_as}
 use Rattle.common_nodes.proofs.pick.Goals.{then-contains, else-contains}
 use Rattle.common_nodes.proofs.pick.Goals as goal
 

@@ -4,7 +4,6 @@ use mathlib.Core.List.{List}
 use Prim.Native.Nat.{ℕ}
 use native.Mathlib.Omega.{arith}
 use lib.ListN.{length}
-use Rattle.std.proofs.lemmas.Result.{err_from_is_err_and}
 use Rattle.laws.specs.Lists.{All}
 use Rattle.model_file.specs.File.{length_off, last_of}
 use Rattle.model_file.specs.Held.{Byte}
@@ -12,7 +11,7 @@ use Rattle.model_file.specs.Steps.{judge}
 use Rattle.model_file.specs.declared.Stage.TheVariants.{Nodes}
 use Rattle.laws.proofs.Holding.{all_known}
 use Rattle.refusals.specs.declared.Refusal.TheVariants.{Room}
-use Rattle.refusals.proofs.Told.{number-positive}
+use Rattle.refusals.proofs.Told.{number-positive, err_passed}
 use Rattle.model_read.specs.Steps.{Counted, Fitting, Filled}
 use Rattle.model_read.proofs.Answering.{length_whole, last_stands, found_is_lem, refused_records, refused_room, refused_none, fitting, reading_refused, reading_done}
 use Rattle.model_read.proofs.read.Goals as goal
@@ -27,10 +26,9 @@ returns-in_err-p c =
     let each_byte : All Byte c.args.bytes.now = all_known Byte 0 c.args.bytes.now (λ i. (c.type_inv.bytes i).fits) in
     let right_length : length_off (length c.args.bytes.now) ≡ false = sym c.length_off.ensures ∙ c.if-length_off.false in
     let a = c.args in
-    let p = err_from_is_err_and c.from_residual.result c.from_residual.ensures.1 in
     let e = c.in_err-p.field-0.0 in
     let w = ap (judge Nodes) (sym c.as_chunks.ensures.front) ∙ c.in_err-p.ensures in
-    rw (p.1, p.2) (reading_refused a.bytes.now a.coords.now a.kinds.now a.ends.now a.words.now each_byte e
+    rw (err_passed _ c.from_residual.ensures.1) (reading_refused a.bytes.now a.coords.now a.kinds.now a.ends.now a.words.now each_byte e
     (refused_records a.bytes.now a.coords.now a.kinds.now a.ends.now a.words.now right_length (λ z. omega (arith, number-positive e, w, z)) ∙ w))
 
 pub returns-then-room_off : goal.returns-then-room_off

@@ -1,7 +1,6 @@
 use mathlib.Core.Path.{sym, ◌∙◌, subst}
 use native.Mathlib.Omega.{arith}
-use Rattle.std.proofs.lemmas.Result.{err_from_is_err_and}
-use Rattle.refusals.proofs.Told.{number-positive, told_ok, told_err}
+use Rattle.refusals.proofs.Told.{number-positive, told_ok, told_err, err_passed}
 use Rattle.mesh.specs.Lent.{lent}
 use Rattle.mesh.specs.Model.{Model}
 use Rattle.mesh.specs.declared.accepted.Accepted.{Accepted}
@@ -14,10 +13,9 @@ returns-in_err-accepted c =
     let m = lent c.args.model.now in
     let o = c.args.out.now in
     let h = c.held.ensures in
-    let p = err_from_is_err_and c.from_residual.result c.from_residual.ensures.1 in
     let e = c.in_err-accepted.field-0.0 in
     let n = told_err {A = Accepted} {B = Model} (λ a. lent a.model) e _ m c.in_err-accepted.ensures in
-    rw (p.1, p.2) (writing_refused m o (record { coords = h.0; tolerance = h.1; cap = h.2 }) e (refused_model m o (λ z. omega (arith, number-positive e, n, z)) ∙ sym n))
+    rw (err_passed _ c.from_residual.ensures.1) (writing_refused m o (record { coords = h.0; tolerance = h.1; cap = h.2 }) e (refused_model m o (λ z. omega (arith, number-positive e, n, z)) ∙ sym n))
 
 pub returns : goal.returns
 returns c =

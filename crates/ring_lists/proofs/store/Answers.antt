@@ -1,15 +1,15 @@
 use Prim.Native.Nat.{ℕ, ◌+◌, ◌≤◌}
 use mathlib.Core.Path.{◌≡◌, sym, ap, ◌∙◌, subst}
 use native.Mathlib.Omega.{arith}
-use mathlib.Core.List.{map}
-use lib.ListN.{length, take, replicate}
+use mathlib.Core.List.{map, ◌++◌}
+use lib.ListN.{length, take, drop, replicate}
 use lib.Seq.{sets, length-take-le}
 use Rattle.snap.specs.Weld.{welded_by}
 use Rattle.snap.specs.Steps.{But}
 use Rattle.welding.specs.Steps.{welded_over}
 use Rattle.laws.specs.Limits.{node_limit}
 use Rattle.laws.specs.Merging.{AllBelow, region}
-use Rattle.laws.proofs.Stores.{cleared}
+use Rattle.laws.proofs.Stores.{cleared, filled_front}
 use Rattle.geometry.specs.Coordinates.{node_count}
 use Rattle.mesh.specs.Lent.{lent}
 use Rattle.mesh.specs.Rings.{nodes_in}
@@ -67,9 +67,6 @@ slice_bounds-put_welded-end-2 c =
 pub put_welded-requires : goal.put_welded-requires
 put_welded-requires c = rings_put c
 
-pub clear-requires : goal.clear-requires
-clear-requires c = omega (arith, c.weld_named.auto.work, c.requires.work_in_bounds, c.work_needed.ensures)
-
 pub returns : goal.returns
 returns c =
     let s = c.args.accepted.now in
@@ -79,12 +76,13 @@ returns c =
     let n = c.node_count-n.ensures in
     let f = front m s.accepted c.args.raw.now _ c.requires.raw_in_bounds p.ensures.1 _ p.ensures.0 in
     let N = node_count m.coords in
+    let left = c.fill.new.self ++ drop c.work_needed.result q.new.work in
     let named = subst (λ (k : ℕ). (region (k + k) k q.new.work ≡ welded_over m.coords m.tolerance m.words) × But 0 (k + k + k) c.args.work.now q.new.work) n q.ensures in
     record {
       raw_is = raw_stored m s.accepted c.args.raw.now _ c.requires.raw_in_bounds p.ensures.1;
       welded_is = welded_stored m s.accepted c.args.welded.now _ _ _ named.0 f
           (subst (λ (k : ℕ). c.put_welded.new.out ≡ sets c.args.welded.now 0 (map (welded_by (region (k + k) k q.new.work)) (take p.result p.new.out))) n c.put_welded.ensures);
-      work_is = subst (λ (k : ℕ). c.clear.new.work ≡ sets c.args.work.now 0 (replicate k 0)) c.work_needed.ensures
-          (c.clear.ensures
+      work_is = subst (λ (k : ℕ). left ≡ sets c.args.work.now 0 (replicate k 0)) c.work_needed.ensures
+          (filled_front q.new.work c.work_needed.result 0 (omega (arith, q.auto.work, c.requires.work_in_bounds, c.work_needed.ensures)) (c.fill.ensures.after (λ y e. e))
           ∙ cleared c.args.work.now _ (N + N + N) c.work_needed.result named.1.1 (omega (arith, work_room m, c.work_needed.ensures)) (omega (arith, c.work_needed.ensures, c.requires.work_in_bounds)) q.auto.work);
     }

@@ -5,13 +5,12 @@ use mathlib.Core.List.{List, ◌++◌}
 use native.Mathlib.Omega.{arith}
 use lib.ListN.{length, take, drop, replicate, length-replicate}
 use lib.Seq.{sets, length-take-le}
-use Rattle.std.proofs.lemmas.Result.{err_from_is_err_and}
 use Rattle.laws.specs.Limits.{node_limit}
 use Rattle.laws.specs.Merging.{AllBelow, region}
-use Rattle.laws.proofs.Stores.{sets_front}
+use Rattle.laws.proofs.Stores.{filled_front}
 use Rattle.snap.specs.Steps.{But}
 use Rattle.refusals.specs.declared.Refusal.TheVariants.{Room}
-use Rattle.refusals.proofs.Told.{number-positive, told_ok, told_err}
+use Rattle.refusals.proofs.Told.{number-positive, told_ok, told_err, err_passed}
 use Rattle.geometry.specs.Coordinates.{node_count}
 use Rattle.mesh.specs.Lent.{lent}
 use Rattle.mesh.specs.Rings.{nodes_in}
@@ -25,19 +24,12 @@ use Rattle.welding.proofs.weld.Goals as goal
 third : (w : List ℕ) (n : ℕ) → take (n + n + n - (n + n)) (drop (n + n) w) ≡ region (n + n) n w
 third w n = let e : n + n + n - (n + n) ≡ n = omega arith in ap (λ (k : ℕ). take k (drop (n + n) w)) e
 
--- words in front that come back as zeros
-front_zero : (w : List ℕ) (m : ℕ) {new : List ℕ} → m ≤ length w → new ≡ replicate (length (take m w)) 0 → new ++ drop m w ≡ sets w 0 (replicate m 0)
-front_zero w m h e =
-    let long : length {A = ℕ} (replicate m 0) ≡ m = length-replicate m 0 in
-    rw (e, length-take-le m w h) (sym (sets_front w (replicate m 0) (omega arith) ∙ ap (λ (k : ℕ). replicate m 0 ++ drop k w) long))
-
 pub returns-in_err-judge_mesh : goal.returns-in_err-judge_mesh
 returns-in_err-judge_mesh c =
     let m = lent c.args.model.now in
-    let p = err_from_is_err_and c.from_residual.result c.from_residual.ensures.1 in
     let e = c.in_err-judge_mesh.field-0.0 in
     let n = told_err {A = CellTally} {B = Unit {0}} _ e _ _ c.in_err-judge_mesh.ensures.answered in
-    rw (p.1, p.2) (refusing m c.args.map.now c.args.scratch.now e (n ∙ sym (row_mesh m _ _ (λ z. omega (arith, number-positive e, n, z)))))
+    rw (err_passed _ c.from_residual.ensures.1) (refusing m c.args.map.now c.args.scratch.now e (n ∙ sym (row_mesh m _ _ (λ z. omega (arith, number-positive e, n, z)))))
 
 pub returns-then-map-n : goal.returns-then-map-n
 returns-then-map-n c =
@@ -75,4 +67,4 @@ returns c =
     (ap (λ (l : List ℕ). l ++ drop c.node_count-n.result c.args.map.now) (c.copy_from_slice.ensures.after ∙ third W.new.work c.node_count-n.result)
     ∙ ap (λ (k : ℕ). region (k + k) k W.new.work ++ drop k c.args.map.now) n)
     (subst (λ (k : ℕ). c.fill.new.self ++ drop (3 * c.node_count-n.result) W.new.work ≡ sets W.new.work 0 (replicate (3 * k) 0)) n
-    (front_zero W.new.work (3 * c.node_count-n.result) (omega arith) (c.fill.ensures.after (λ y e. e))))
+    (filled_front W.new.work (3 * c.node_count-n.result) 0 (omega arith) (c.fill.ensures.after (λ y e. e))))

@@ -4,8 +4,7 @@ use mathlib.Core.List.{[]}
 use native.Mathlib.Omega.{arith}
 use lib.ListN.{length, get_or, take, drop}
 use Rattle.std.specs.Prelude.{Option}
-use Rattle.std.proofs.lemmas.Result.{err_from_is_err_and}
-use Rattle.refusals.proofs.Told.{number-positive}
+use Rattle.refusals.proofs.Told.{number-positive, err_passed}
 use Rattle.model_file.specs.declared.Letter.{Letter}
 use Rattle.model_file.specs.declared.Stage.{Stage}
 use Rattle.model_file.specs.Records.{letter, stage}
@@ -26,10 +25,9 @@ returns-in_err-l c =
     let o = c.loop-r in
     let rest = take (length a.records.now - a.nodes) (drop a.nodes a.records.now) in
     let j = subst (Judging a.records.now o.stage o.p) (next_record rest o.r-index c.loop-r-test.true) o.invariant in
-    let p = err_from_is_err_and c.from_residual.result c.from_residual.ensures.1 in
     let e = c.in_err-l.field-0.0 in
     let w = c.in_err-l.ensures in
-    rw (p.1, p.2) (refused_here a.records.now o.stage o.p _ _ j (λ z. omega (arith, number-positive e, w, z)) ∙ w)
+    rw (err_passed _ c.from_residual.ensures.1) (refused_here a.records.now o.stage o.p _ _ j (λ z. omega (arith, number-positive e, w, z)) ∙ w)
 
 pub loop-r-preserved : goal.loop-r-preserved
 loop-r-preserved c =
