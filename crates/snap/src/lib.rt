@@ -27,24 +27,24 @@ fn number_of(i: u32, w: u32) -> u32
     w.checked_sub(1).unwrap_or(i)
 }
 
-// Each mark becomes the number that it gives its node. By index: after an adapter of iter_mut a proof knows nothing of the elements.
+// Each mark becomes the number that it gives its node.
 fn settle(marks: &mut [u32])
     requires { length marks.old < 2 ^ 32 }
     ensures { marks.new ≡ numbers 0 marks.old }
 {
-    for i in 0..marks.len() {
-        marks[i] = number_of(i as u32, marks[i]);
+    for (i, mark) in marks.iter_mut().enumerate() {
+        *mark = number_of(i as u32, *mark);
     }
 }
 
-// The words are 0, 1, .. By index, as above.
+// The words are 0, 1, ..
 #[tactic(auto, using(crate::proofs::Marks::number_step))]
 pub fn number(part: &mut [u32])
     requires { length part.old < 2 ^ 32 }
     ensures { part.new ≡ up_from 0 (length part.old) }
 {
-    for i in 0..part.len() {
-        part[i] = i as u32;
+    for (i, word) in part.iter_mut().enumerate() {
+        *word = i as u32;
     }
 }
 
