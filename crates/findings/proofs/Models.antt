@@ -4,7 +4,6 @@ use mathlib.Core.Path.{◌≡◌, refl, sym, ap, ◌∙◌}
 use mathlib.Core.Logic.{◌≢◌, ∥∥₁_elim, ⊎_elim}
 use mathlib.Core.Bool.{true, false, cond, Bool-set}
 use mathlib.Core.List.{List, [], ◌∷◌, map, Perm, Memᴰ}
-use mathlib.Core.List.Permᴰ
 use native.Mathlib.Nat.{ℕ_set}
 use native.Mathlib.Omega.{arith}
 use lib.Dec.{ltb, eqb}
@@ -12,7 +11,7 @@ use lib.ListN.{length, get_or, length-map}
 use Rattle.laws.specs.Lists.{any, keep, up_from}
 use Rattle.laws.specs.Refusals.{refusal}
 use Rattle.std.proofs.lemmas.Bool.{cases_Bool}
-use Rattle.laws.proofs.Permutations.{perm_each}
+use Rattle.laws.proofs.Permutations.{perm_each, perm_length}
 use Rattle.geometry.specs.Coordinates.{node_count}
 use Rattle.mesh.specs.Model.{Model, Raw, contains, TOPOLOGY, cells_of}
 use Rattle.mesh.specs.Rings.{numbered}
@@ -98,7 +97,7 @@ same_findings m σ p = rw (full_of_lem (reordered σ m), full_of_lem m, same_rul
 pub same_total : (m : Model) (σ : List ℕ) → Perm σ (up_from 0 (length (cells_of m))) → length (full_of (reordered σ m)) ≡ length (full_of m)
 same_total m σ p =
     ∥∥₁_elim (same_findings m σ p) (ℕ_set _ _)
-    (λ d. sym (length-map (full_of (reordered σ m)) (compared (rules_of m) (λ i. get_or σ i 0))) ∙ Permᴰ.length-eq d ∙ length-map (full_of m) (compared (rules_of m) (λ i. i)))
+    (λ d. sym (length-map (full_of (reordered σ m)) (compared (rules_of m) (λ i. get_or σ i 0))) ∙ perm_length d ∙ length-map (full_of m) (compared (rules_of m) (λ i. i)))
 
 -- an accepted model and its reordering are refused alike by the check
 pub same_check : (m : Model) (σ work : List ℕ) → model_refusal m ≡ 0 → Reordering m σ → check_refusal (reordered σ m) work ≡ check_refusal m work

@@ -12,7 +12,7 @@ use lib.ListN.{length, get_or, length-map, length-append}
 use lib.Seq.{get_or-append_seam, take-append_seam, drop-append_seam}
 use Rattle.laws.specs.Lists.{any, each, up_from}
 use Rattle.laws.specs.Refusals.{refusal}
-use Rattle.laws.proofs.Permutations.{perm_eq, perm_each, perm_map}
+use Rattle.laws.proofs.Permutations.{perm_eq, perm_each, perm_map, perm_length}
 use Rattle.geometry.specs.Coordinates.{node_count}
 use Rattle.mesh.specs.Model.{Model, Raw, ascending, cells_from, cells_of}
 use Rattle.mesh.specs.Rings.{rings_of, ring_words}
@@ -76,7 +76,7 @@ module _ (m : Model) (σ : List ℕ) (h : Accepts m) (r : Reordering m σ) where
 
   -- as many cells
   same_cells : length (moved σ (cells_of m)) ≡ length m.kinds
-  same_cells = same_number length (λ l k d. Permᴰ.length-eq d) ∙ cells_count m h
+  same_cells = same_number length (λ l k d. perm_length d) ∙ cells_count m h
 
   -- as many kinds
   same_kinds : length (reordered σ m).kinds ≡ length m.kinds
@@ -86,7 +86,7 @@ module _ (m : Model) (σ : List ℕ) (h : Accepts m) (r : Reordering m σ) where
   -- as many words
   same_words_lem : length (reordered σ m).words ≡ length m.words
   unfolding reordered with_cells
-  same_words_lem = same_number (λ l. length (each (λ c. c.words) l)) (λ l k d. Permᴰ.length-eq (perm_each (λ c. c.words) d)) ∙ ap length (cells_words m h)
+  same_words_lem = same_number (λ l. length (each (λ c. c.words) l)) (λ l k d. perm_length (perm_each (λ c. c.words) d)) ∙ ap length (cells_words m h)
 
   -- no cell is wrong
   same_right : (n : ℕ) → any (cell_wrong n) (moved σ (cells_of m)) ≡ any (cell_wrong n) (cells_of m)
@@ -118,10 +118,10 @@ unfolding work_needed
 same_work m σ h r =
     let f : length (faces_in (reordered σ m)) ≡ length (faces_in m) =
     face_count_lem (reordered σ m) ∙ ap (λ (l : List Raw). length (each rings_of l)) (reordered_cells σ m)
-    ∙ same_number m σ h r (λ l. length (each rings_of l)) (λ l k d. Permᴰ.length-eq (perm_each rings_of d)) ∙ sym (face_count_lem m) in
+    ∙ same_number m σ h r (λ l. length (each rings_of l)) (λ l k d. perm_length (perm_each rings_of d)) ∙ sym (face_count_lem m) in
     let w : length (ring_words (faces_in (reordered σ m))) ≡ length (ring_words (faces_in m)) =
     ap length (ring_words_lem (reordered σ m)) ∙ ap (λ (l : List Raw). length (each (λ r. r) (each rings_of l))) (reordered_cells σ m)
-    ∙ same_number m σ h r (λ l. length (each (λ r. r) (each rings_of l))) (λ l k d. Permᴰ.length-eq (perm_each (λ r. r) (perm_each rings_of d))) ∙ sym (ap length (ring_words_lem m)) in
+    ∙ same_number m σ h r (λ l. length (each (λ r. r) (each rings_of l))) (λ l k d. perm_length (perm_each (λ r. r) (perm_each rings_of d))) ∙ sym (ap length (ring_words_lem m)) in
     let n : node_count (reordered σ m).coords ≡ node_count m.coords = unfold reordered with_cells in refl in
     rw (f, w, same_kinds m σ h r, same_words_lem m σ h r, n)
 

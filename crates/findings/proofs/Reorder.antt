@@ -12,7 +12,7 @@ use Rattle.laws.specs.Lists.{only_if, any, first, each, walk, keep, sort, eql, u
 use Rattle.std.proofs.lemmas.Bool.{cases_Bool}
 use Rattle.laws.proofs.ListLaws.{each_ext, walk-each, each_map, map_each, map-only_if, any-map, any_append, any_swap, only_if_and, keep-map, walk-map, eql_true, eql_self, eql_comm}
 use Rattle.laws.proofs.Sorting.{by_number, insert_swap}
-use Rattle.laws.proofs.Permutations.{perm_ind, perm_eq, perm_append, perm_left_comm, perm_each, perm_map, pairs, perm_pairs, sort_perm}
+use Rattle.laws.proofs.Permutations.{perm_ind, perm_eq, perm_append, perm_left_comm, perm_each, perm_map, pairs, perm_pairs, perm_length, sort_perm}
 use Rattle.mesh.specs.Model.{Raw, contains, TOPOLOGY, BUTTERFLY}
 use Rattle.mesh.specs.Rings.{Cell, Face, faces_from, faces_of, faces, number_from, numbered, same_key}
 use Rattle.mesh.proofs.ModelTable.{rings_from}
@@ -174,7 +174,7 @@ module _ (R : Rules) where
   -- the order of the faces with a key does not matter
   over_n_perm : (x : Keyed) {l m : List Keyed} → Permᴰ l m → over_n R x l ≡ over_n R x m
   unfolding over_n
-  over_n_perm x {l} {m} d = rw (Permᴰ.length-eq d, sort_perm leb by_number (perm_map (λ y. y.0) d))
+  over_n_perm x {l} {m} d = rw (perm_length d, sort_perm leb by_number (perm_map (λ y. y.0) d))
 
   -- nor that of the faces after
   over_perm_post : (pre : List Keyed) (x : Keyed) {l m : List Keyed} → Permᴰ l m → over_at_n R pre x l ≡ over_at_n R pre x m

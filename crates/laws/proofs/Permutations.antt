@@ -1,8 +1,10 @@
 -- Permutations of lists.
+use Prim.Native.Nat.{suc}
 use mathlib.Core.Path.{◌≡◌, refl, ap, ◌∙◌, subst}
 use mathlib.Core.Bool.{Bool}
 use mathlib.Core.List.Permᴰ
 use mathlib.Core.List.{List, [], ◌∷◌, ◌++◌, map, append_assoc, Permᴰ}
+use lib.ListN.{length}
 use Rattle.laws.specs.Lists.{each, insert, sort}
 use Rattle.laws.proofs.Sorting.{Total, insert_swap}
 
@@ -56,6 +58,10 @@ module _ {ℓ κ} {A : Type ℓ} {B : Type κ} where
       (λ x y l. rw (s x y, append_assoc (f y x) (each (f x) l), append_assoc (f y x) (each (f y) l))
       (Permᴰ.append_left (f y x) (perm_left_comm (each (f x) l) (each (f y) l) (pairs f l))))
       (λ l m n p q. Permᴰ.trans p q)
+
+module _ {ℓ} {A : Type ℓ} where
+  pub perm_length : {l m : List A} → Permᴰ l m → length l ≡ length m
+  perm_length = perm_ind (λ l m. length l ≡ length m) refl (λ x l m d e. ap suc e) (λ x y l. refl) (λ l m n e f. e ∙ f)
 
 -- lists that are permutations of each other are sorted alike
 module _ {ℓ} {A : Type ℓ} (le : A → A → Bool) (T : Total le) where
