@@ -78,7 +78,7 @@ fn judge_all(rt: &impl Print, list: &[u8]) -> io::Result<()> {
     for entry in Entries::<Listed>::new(list) {
         match entry {
             Ok(m) => println!(rt; "{} {}", m.name, judge(&m))?,
-            Err(_) => println!(rt; "a model cut short")?,
+            Err(_) => println!(rt; "a model cut short 255")?,
         }
     }
     Ok(())
