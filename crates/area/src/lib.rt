@@ -100,7 +100,7 @@ fn thick(rest: &Nodes, o: Point, dir: Point, bound: f64) -> bool
 
 // ---- the test, on nodes that are known to be good
 
-// What the test says, with its reason.
+// What the test says, with its reason. Coordinates and nodes are two arguments, as in the Rust; they are one, `Nodes`, within.
 #[tactic(auto, using(geometry::proofs::Listed::points_length, crate::proofs::Judged::differences), unfolding(crate::specs::AreaTest::area_of, crate::specs::AreaTest::spread_of))]
 pub fn area_of(coords: &[f64], nodes: &[u32], tol: f64) -> Area
     requires { InNodes coords.now nodes.now }

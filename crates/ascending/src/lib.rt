@@ -6,7 +6,7 @@ ghost use Rattle.std.proofs.lemmas.List.Edits.{sets};
 ghost use Rattle.laws.specs.Merging.{region, Asc};
 ghost use Rattle.laws.specs.Lists.{add, eql};
 
-// Two lists are equal. A loop: `==` on slices took a quarter longer where the first words differ.
+// Two lists are equal. A loop by index over both: `==` on slices took a quarter longer where the first words differ.
 pub fn equal(a: &[u32], b: &[u32]) -> bool
     ensures { result ≡ eql a.now b.now }
 {
@@ -21,7 +21,8 @@ pub fn equal(a: &[u32], b: &[u32]) -> bool
     true
 }
 
-// v goes to its place among the n ascending words from o on, unless it is there; answers how many there are then.
+// v goes to its place among the n ascending words from o on, unless it is there; answers how many there are then. By places in the whole
+// slice: the list grows, and its callers say of the whole slice what it holds.
 pub fn insert(work: &mut [u32], o: usize, n: usize, v: u32) -> usize
     requires { (o + n ≤ length work.old) × (o + length (add leb v (region o n work.old)) ≤ length work.old) × Asc (region o n work.old) }
     ensures { (result ≡ length (add leb v (region o n work.old))) × (work.new ≡ sets work.old o (add leb v (region o n work.old))) }

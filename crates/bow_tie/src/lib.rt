@@ -12,7 +12,7 @@ use geometry::{Nodes, Point};
 
 const TINY: f64 = 1e-12;
 
-// ---- the meeting of two edges
+// ---- the meeting of two edges: each has its two ends as arguments, as in the Rust
 
 // How two edges meet (a form that document 01 names): parallel, with the span of the second along the first; crossing, with the parameter on each; or not.
 #[derive(Clone, Copy)]

@@ -1,6 +1,6 @@
 // The operations for programs in C and Rust: a slice is a pointer and a length, an out-parameter a pointer.
 // Each but the version answers 0 or the refusal's number; at a refusal nothing is written. A model is made of its fields by name in each: a
-// function of seven arguments that are told apart by their places alone would be no plainer.
+// function of seven arguments, two of them lists of one type, would be no plainer.
 #![tactic(auto)]
 
 ghost use Rattle.std.specs.Prelude.{◌≡◌};

@@ -1,4 +1,5 @@
-// The common nodes of two faces: their number, whether they span an area, and their centre.
+// The common nodes of two faces: their number, whether they span an area, and their centre. Coordinates and tolerance are arguments of their
+// own: the layout's `Context`, which has both, lies above.
 #![tactic(auto)]
 
 ghost use Rattle.std.specs.Prelude.{◌≡◌, ◌<◌, ◌≤◌, length};

@@ -13,7 +13,7 @@ ghost use Rattle.faces.specs.Spans.{rings_in, SpanIn, CellFound};
 use mesh::{Accepted, Cell, Kind, Model, PhedRings, RingList};
 use refusals::Refusal;
 
-// Where a ring lies among all ring words.
+// Where a ring lies among all ring words. No Range: C and the definition (`ring_part`) are told a start and a length.
 #[derive(Clone, Copy)]
 pub struct Span {
     pub start: usize,

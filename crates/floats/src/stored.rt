@@ -91,7 +91,7 @@ impl<const N: usize> Stored<N> for [u8; N] {
     }
 }
 
-// What stands in the N bytes from `at` on.
+// What stands in the N bytes from `at` on. At a place of a longer list, for a record's fields stand at fixed places.
 pub fn get<T: Stored<N>, const N: usize>(s: &[u8], at: usize) -> T
     requires { at + N ≤ length s.now }
     ensures { result ≡ T.value_of (slice at (at + N) s.now) }

@@ -24,7 +24,8 @@ pub struct Counts {
     pub tally: Tally,
 }
 
-// Which way candidates are sought: the one that is less work, as the check does, or one of the two.
+// Which way candidates are sought: the one that is less work, as the check does, or one of the two. No Option of a way: the promise of
+// the check names the first (`CheckingBy LessWork`), which None would not say.
 #[derive(Clone, Copy)]
 pub enum Choice {
     LessWork,

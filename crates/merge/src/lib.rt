@@ -6,7 +6,8 @@ ghost use Rattle.std.proofs.lemmas.List.Edits.{sets};
 ghost use Rattle.laws.specs.Lists.{keep, up_from};
 ghost use Rattle.merge.specs.Runs.{head, stands, next, Ends, Lowest};
 
-// The first number of the run from x to e, or d.
+// The first number of the run from x to e, or d. A number above all that may come stands for none, and no Option: so the lowest of all runs
+// is one minimum, and the next of a run is found by one comparison.
 fn head_of(base: &[u32], x: usize, e: usize, d: usize) -> usize
     requires { e ≤ length base.now }
     ensures { result ≡ head d x e base.now }
@@ -50,6 +51,7 @@ impl Runs {
         ensures { Lowest self.now.count base.now self.now.from self.now.to d result }
     {
         let mut r = d;
+        // by index: it reads two lists at the same place
         for i in 0..self.count {
             r = r.min(head_of(base, self.from[i], self.to[i], d));
         }

@@ -24,7 +24,8 @@ impl<'a> Accepted<'a> {
     ghost use Rattle.mesh.specs.Acceptance.{work_needed};
     ghost use Rattle.mesh.specs.CellsRest.{cells_rest};
 
-    // 8R + 4F + 8C + 4N + 4M + 16
+    // 8R + 4F + 8C + 4N + 4M + 16. Each operation compares it with the work that it was lent in its own place among its refusals, in one
+    // line: a method that refuses would hide the order, which the papers give.
     pub fn work_needed(&self) -> usize
         ensures { result ≡ work_needed (lent self.now.model) }
     {

@@ -92,7 +92,8 @@ fn ends_off(ends: &[u32], n: usize) -> bool
     at != n
 }
 
-// A PHED's rings, one by one; none where one is too long.
+// A PHED's rings, one by one; none where one is too long. That the words are few is asked here and of the two below, and not held by a
+// type: these words are judged only now.
 fn tally_runs(words: &[u32]) -> Option<CellTally>
     requires { length words.now < 4294967296 }
     ensures { RunsCounted words.now result }
@@ -118,7 +119,7 @@ fn node_off(nodes: usize, kind: Kind, word: u32) -> bool
     large & !(phed & separates)
 }
 
-// Some word is. Every word is tested, with no early exit.
+// Some word is. Every word is tested, with no early exit, so that the compiler makes vector code of the loop; `any` ends at the first.
 fn nodes_off(nodes: usize, kind: Kind, words: &[u32]) -> bool
     ensures { result ≡ any (node_off nodes (kind_number kind)) words.now }
 {
@@ -129,7 +130,7 @@ fn nodes_off(nodes: usize, kind: Kind, words: &[u32]) -> bool
     off
 }
 
-// The same, with no word read where all are known to be `good`.
+// The same, with no word read where all are known to be `good`: the promise binds the flag to the words, so it is not believed.
 fn nodes_off_unless(nodes: usize, kind: Kind, words: &[u32], good: bool) -> bool
     requires { good ≡ true → any (node_off nodes (kind_number kind)) words.now ≡ false }
     ensures { result ≡ any (node_off nodes (kind_number kind)) words.now }

@@ -41,8 +41,8 @@ fn put_end(ends: &mut [u32], cells: usize, words: usize)
     }
 }
 
-// N words of a C or K, from the j-th on. N is a constant: with a loop over all words a record of eight took 130 instructions to
-// read in place of 65 (docs/SPEED.md).
+// N words of a C or K, from the j-th on. N is a constant, so the compiler unrolls the loop: with one over all words reading a file of
+// hexahedra took 130 instructions a record, and with these 65 (docs/SPEED.md).
 fn put_some<const N: usize>(r: &[u8; 32], words: &mut [u32], at: usize, j: usize)
     requires { (j + N ≤ 14) × (at + j + N ≤ length words.old) }
     ensures { words.new ≡ sets words.old (at + j) (words_between j (j + N) r.now) }

@@ -9,7 +9,8 @@ use crate::Place;
 use model_file::{Letter, Stage};
 use refusals::Refusal;
 
-// Three sizes, each one number that is read at once: as one function over N bytes, reading a file took 1.8 times the instructions.
+// Three sizes, each one number that is read at once: a loop over N bytes took 1.8 times the instructions to read a file, and over `Stored`
+// each instance would owe a law of zero, for these three alone. Each match on a letter below is one definition of the papers.
 
 // Whether eight bytes are zero.
 fn zero_eight(r: &[u8; 32], at: usize) -> bool

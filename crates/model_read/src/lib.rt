@@ -15,7 +15,7 @@ use refusals::Refusal;
 mod judging; // one pass over the records: the first refusal, or how much the file holds
 mod filling; // one more pass, which fills the lists
 
-// How many coordinates, cells and words records hold, from the first on: so far the lists are filled.
+// How many coordinates, cells and words the records up to one hold: where what the next holds goes.
 #[derive(Clone, Copy)]
 struct Place {
     coords: usize,

@@ -131,6 +131,7 @@ fn put_cell(out: &mut [u8], at: usize, cell: &Cell) -> usize
         at,
         word_record(Letter::Cell, u8::from(cell.kind), first),
     );
+    // p goes on by hand: the place behind the last is the answer
     let mut p = at + 32;
     for part in rest.chunks(14) {
         floats::put(out, p, word_record(Letter::More, 0, part));
@@ -151,6 +152,7 @@ fn count_cells(model: &Accepted) -> usize
     ensures { result ≡ length (each cell_records (cells_of (lent model.now.model))) }
 {
     let mut sum = 0;
+    // no `map(..).sum()`: each sum on the way would have to be shown to fit of the closure's results alone
     for cell in model.cells() {
         sum += cell_size(cell.words.len());
     }
@@ -170,7 +172,8 @@ fn put_cells(out: &mut [u8], at: usize, model: &Accepted)
 
 // ---- the file
 
-// What the types of these values say of them. Of a model behind a reference an answer has no name for it.
+// What the types of these values say of them, as a promise: in the proof of `write` the types of a model's fields, behind a reference, have no
+// name.
 fn held(coords: &[f64], tolerance: f64, cap: u16)
     ensures { All Fits coords.now × Fits tolerance × (cap < 65536) }
 {}

@@ -1,4 +1,5 @@
-// Candidates of a face, sought the way that is less work.
+// Candidates of a face, sought the way that is asked for, and which way is less work. The slice, the places of both indexes and the face go
+// side by side: what is known of the words changes with each search, so no struct could hold it.
 #![tactic(auto)]
 
 ghost use Rattle.std.specs.Prelude.{◌≡◌, ◌*◌, ◌≤◌, ◌^◌, length};
@@ -49,7 +50,7 @@ pub fn triple_work(ix: &Index) -> usize
     ensures { (result ≡ triple_work ix.now.at (input_of ix.now)) × (result ≤ 2 ^ 36) }
 {
     let mut total = 0;
-    // as above
+    // no `map(..).sum()`: the closure asks for a face, as the one above for a node
     for g in 0..ix.at.faces {
         total += triples_of(ix.set_size(g));
     }
@@ -81,7 +82,8 @@ pub fn prepare(work: &mut [u32], at: index::Places) -> Way
     less_work(&Index::new(work, at))
 }
 
-// The candidates of face lo, sought the way that is asked for.
+// The candidates of face lo, sought the way that is asked for, each way with its own function. Apart from `candidates_of`, so that an edit
+// of the match is refused by a promise.
 fn seek(
     work: &mut [u32],
     at: index::Places,

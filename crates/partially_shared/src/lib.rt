@@ -23,7 +23,8 @@ use seek::Way;
 
 mod noting; // the faces of a cell: candidates sought, later cells marked
 
-// The cells from lo on, before hi, and how many cells are listed, where the list has room for all.
+// The cells from lo on, before hi, and how many cells are listed, where the list has room for all. No Range of the library: it is copied from
+// turn to turn, with the list's number.
 #[derive(Clone, Copy)]
 pub struct Range {
     pub lo: usize,

@@ -134,6 +134,7 @@ pub fn note_cell(
         listed: Some(0),
     };
     let mut s = Noted { range: none, tally };
+    // by its two ends: a Range moves into the loop, and a turn asks for the end
     for f in faces.start..faces.end {
         s = note_face(cx, work, by, f, faces.end, way, s);
     }

@@ -7,7 +7,8 @@ ghost use Rattle.findings.specs.Records.{record_bytes};
 ghost use Rattle.records.specs.Read.{fields_in};
 ghost use Rattle.records.specs.Keeping.{told, KeptOne};
 
-// The kinds of findings; a record has the kind's number.
+// The kinds of findings; a record has the kind's number. By a cast at the four places that make records, where the kind is written out: a
+// From would be a call for each, whose promise says the same constant.
 #[derive(Clone, Copy, Debug, PartialEq, Eq)]
 pub enum Kind {
     BowTie = 1,
@@ -27,7 +28,8 @@ pub struct Record {
     pub count: u32,
 }
 
-// The bytes of a record.
+// The bytes of a record. No instance of `Stored`: the centre is written, and not read back. A record and its centre go side by side, for
+// a report prints the fields alone.
 fn bytes_of(r: Record, centre: geometry::Point) -> [u8; 64]
     ensures { result ≡ record_bytes (told r) centre }
 {

@@ -39,7 +39,7 @@ pub enum Refusal {
 }
 
 impl Refusal {
-    // The number of the reason; 0 is none.
+    // The number of the reason; 0 is none. A method and no From: it also promises that no number is 0, which answers told to C need.
     pub fn number(self) -> u8
         ensures value { result ≡ number self }
         ensures nonzero { 0 < result }

@@ -20,7 +20,7 @@ pub struct Regions {
     pub spare: usize,
 }
 
-// The pair of n and q goes to o, the smaller first.
+// The pair of n and q goes to o, the smaller first. By the place in the whole slice, as what it promises is told of it.
 fn put_pair(work: &mut [u32], o: usize, n: u32, q: u32)
     requires { o + 2 ≤ length work.old }
     ensures { work.new ≡ sets work.old o (flat (pair_of n q ∷ [])) }

@@ -64,19 +64,19 @@ fn is_front(bytes: &[u8], theirs: &[u8]) -> bool {
 
 // ---- a model
 
-// The number in two bytes, the lower first.
-fn two(low: u8, high: u8) -> usize
-    ensures { result < 65536 }
+// The number in the two bytes from `at` on.
+fn two(head: &[u8; 4], at: usize) -> usize
+    requires { at ≤ 2 }
 {
-    u16::from_le_bytes([low, high]) as usize
+    floats::get::<u16, 2>(head, at) as usize
 }
 
 // A recorded model is the model file's length / 32 and the number of records in two bytes each, the model file, the records.
 impl<'a> Entry<'a> for Recorded<'a> {
     fn split_first(list: &'a [u8]) -> Option<(Recorded<'a>, &'a [u8])> {
         let (head, rest) = list.split_first_chunk::<4>()?;
-        let (model, rest) = rest.split_at_checked(32 * two(head[0], head[1]))?;
-        let (records, rest) = rest.split_at_checked(64 * two(head[2], head[3]))?;
+        let (model, rest) = rest.split_at_checked(32 * two(head, 0))?;
+        let (records, rest) = rest.split_at_checked(64 * two(head, 2))?;
         Some((Recorded { model, records }, rest))
     }
 }

@@ -1,4 +1,5 @@
-// The rings of cells, put one after the other into a lent list.
+// The rings of cells, put one after the other into a lent list. Each function answers the place behind what it put, from which the next goes
+// on: a struct of the list and the place would have to say at each step that it still is the same list.
 #![tactic(auto)]
 
 ghost use Rattle.std.specs.Prelude.{All, ◌+◌, ◌≤◌, ◌<◌, length, get_or, map};

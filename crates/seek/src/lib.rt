@@ -1,4 +1,5 @@
-// Candidates of a face, by common nodes.
+// Candidates of a face, by common nodes. The slice, its places and the face go side by side: what is known of the words changes as
+// candidates are noted, so no struct could hold it; that a face is one of them is a bound and no fact about a value.
 #![tactic(auto)]
 
 ghost use Rattle.std.specs.Prelude.{◌≡◌, [], ◌∷◌, map, ◌+◌, ◌≤◌, ◌<◌, ◌^◌, leb, length, true};
@@ -94,7 +95,8 @@ fn is_candidate(ix: &Index, lo: usize, g: usize, c: usize) -> bool
     !same_set(ix, lo, g)
 }
 
-// Notes g behind n others where it is wanted; answers how many there are then.
+// Notes g behind n others where it is wanted; answers how many there are then. The test comes as its answer, for the promise is the
+// definition's own word for it, `only_if`.
 fn note(work: &mut [u32], found: usize, n: usize, wanted: bool, g: usize) -> usize
     requires { (found + n < length work.old) × (g < 2 ^ 32) }
     ensures value { result ≡ n + length (only_if wanted (g ∷ [])) }
@@ -146,7 +148,7 @@ fn merge_runs(work: &mut [u32], at: index::Places, lo: usize, runs: &mut merge::
     n
 }
 
-// Where the ascending run from x to e has its first number that is not below `end`.
+// Where the ascending run from x to e has its first number that is not below `end`. By places, as the runs hold them: what is answered is one.
 fn skip_run(base: &[u32], x: usize, e: usize, end: usize) -> usize
     requires { (x ≤ e) × (e ≤ length base.now) × Rising x e base.now }
     ensures { rest result e base.now ≡ keep (leb end) (rest x e base.now) }
@@ -161,6 +163,7 @@ fn skip_runs(base: &[u32], runs: &mut merge::Runs, end: usize)
     ensures passed { Passed runs.old.count end base.now runs.old.from runs.new.from runs.old.to }
     ensures others { (runs.new.count ≡ runs.old.count) × (runs.new.to ≡ runs.old.to) }
 {
+    // by index: it reads and writes two lists at the same place
     for i in 0..runs.count {
         runs.from[i] = skip_run(base, runs.from[i], runs.to[i], end);
     }

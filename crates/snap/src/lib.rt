@@ -50,7 +50,7 @@ pub fn number(part: &mut [u32])
 
 impl Space<'_> {
     // The welded numbers of all nodes go to the words from k on, those of the n nodes from a on welded, for a tolerance that is not 0; the
-    // n words from s on are room.
+    // n words from s on are room. By places in the whole slice: it is written at all four of them.
     pub fn weld_in(&self, work: &mut [u32], a: usize, s: usize, k: usize, n: usize)
         requires { (a + n ≤ s) × (s + n ≤ k) × (k + node_count self.now.coords.now ≤ length work.old) × AllBelow (node_count self.now.coords.now) (region a n work.old) × (eq self.now.tolerance zero64 ≡ false) }
         ensures { (region k (node_count self.now.coords.now) work.new ≡ welded self.now.coords.now self.now.tolerance (node_count self.now.coords.now) (region a n work.old)) × But a (k + node_count self.now.coords.now) work.old work.new }

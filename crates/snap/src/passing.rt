@@ -8,7 +8,7 @@ ghost use Rattle.snap.specs.Steps.{apart_by, outside_of, passed_of};
 use crate::Space;
 use geometry::Point;
 
-// A place that was reached, and the last step's size.
+// A place that was reached, and the size of the step that comes next.
 #[derive(Clone, Copy)]
 pub struct Stride {
     pub last: usize,

@@ -14,7 +14,8 @@ ghost use Rattle.tables.specs.Owners.{owners_from};
 
 use mesh::{Accepted, Cell, Kind, PhedRings};
 
-// n times the word v; answers the place behind them, from which its five callers go on.
+// n times the word v; answers the place behind them, as each function here does: what is put next goes on from it, and a struct of the
+// slice and the place would have to say at each step that it still is the same slice.
 fn put_copies(n: usize, v: u32, work: &mut [u32], at: usize) -> usize
     requires { at + n ≤ length work.old }
     ensures { WordsPut (replicate n v) work.old work.new at result }
@@ -28,7 +29,7 @@ fn phed_lengths(words: &[u32], work: &mut [u32], at: usize) -> usize
     requires { (length words.now < 4294967296) × (at + length (phed_rings words.now) ≤ length work.old) }
     ensures { WordsPut (map length (phed_rings words.now)) work.old work.new at result }
 {
-    // k goes up by hand: how many rings there are is known only behind them
+    // k goes up by hand: it is the answer
     let mut k = at;
     for ring in PhedRings::new(words) {
         work[k] = ring.len() as u32;
