@@ -2,11 +2,11 @@
 // the extent, of the largest square, and elsewhere only where squares do not decide; the contracts say that the answer is the same.
 #![tactic(auto)]
 
-ghost use Rattle.std.specs.Prelude.{◌≡◌, [], ◌∷◌, MatchOption};
+ghost use Rattle.std.specs.Prelude.{◌≡◌, ◌*◌, ◌+◌, ◌<◌, [], ◌∷◌, length, MatchOption};
 ghost use Rattle.std.specs.Float.Ieee.{lt};
 ghost use Rattle.floats.specs.Floats.{larger_of};
 ghost use Rattle.refusals.specs.Told.{told};
-ghost use Rattle.geometry.specs.Points.{point_dot, point_cross, length_of, points_of};
+ghost use Rattle.geometry.specs.Points.{point_sub, point_dot, point_cross, length_of, point_at, points_of};
 ghost use Rattle.geometry.specs.Nodes.{points_in};
 ghost use Rattle.geometry.specs.Steps.{InNodes};
 ghost use Rattle.area.specs.AreaTest.{extent_of, direction_of, thick_of, area_number, area_of, is_spans, list_off, area_answer};
@@ -43,41 +43,6 @@ fn reach(m: f64, d: Point) -> f64
     floats::larger(m, geometry::dot(d, d))
 }
 
-// The largest d · d of the differences from o.
-fn most(rest: &Nodes, o: Point) -> f64
-    ensures { result ≡ most_of (away_from o (points_in rest.now)) }
-{
-    let mut m = 0.0;
-    for node in rest.nodes {
-        m = reach(
-            m,
-            geometry::difference(geometry::point3(rest.coords, *node), o),
-        );
-    }
-    m
-}
-
-// The largest length of these differences: the root grows with d · d, so one root is enough.
-#[tactic(auto, using(crate::proofs::OneRoot::extent_root))]
-fn extent(rest: &Nodes, o: Point) -> f64
-    ensures { result ≡ extent_of (away_from o (points_in rest.now)) }
-{
-    floats::sqrt(most(rest, o))
-}
-
-// The first difference that is longer than eps.
-fn direction(rest: &Nodes, o: Point, eps: f64) -> Option<Point>
-    ensures { MatchOption result (direction_of eps (away_from o (points_in rest.now)) ≡ []) (λ d. direction_of eps (away_from o (points_in rest.now)) ≡ d ∷ []) }
-{
-    for node in rest.nodes {
-        let d = geometry::difference(geometry::point3(rest.coords, *node), o);
-        if geometry::longer(d, eps) {
-            return Some(d);
-        }
-    }
-    None
-}
-
 // |dir × d| is above the bound.
 fn thick_at(bound: f64, dir: Point, d: Point) -> bool
     ensures { result ≡ lt bound (length_of (point_cross dir d)) }
@@ -85,17 +50,66 @@ fn thick_at(bound: f64, dir: Point, d: Point) -> bool
     geometry::longer(geometry::cross(dir, d), bound)
 }
 
-// Some difference is thick.
-fn thick(rest: &Nodes, o: Point, dir: Point, bound: f64) -> bool
-    ensures { result ≡ thick_of bound dir (away_from o (points_in rest.now)) }
-{
-    for node in rest.nodes {
-        let d = geometry::difference(geometry::point3(rest.coords, *node), o);
-        if thick_at(bound, dir, d) {
-            return true;
-        }
+// The differences of nodes from a point.
+#[derive(Clone, Copy)]
+struct Differences<'a> {
+    rest: Nodes<'a>,
+    from: Point,
+}
+
+impl Differences<'_> {
+    // That of a node.
+    fn of(&self, node: u32) -> Point
+        requires { node * 3 + 2 < length self.now.rest.coords.now }
+        ensures { result ≡ point_sub (point_at self.now.rest.coords.now node) self.now.from }
+    {
+        geometry::difference(geometry::point3(self.rest.coords, node), self.from)
     }
-    false
+
+    // The largest d · d.
+    fn most(&self) -> f64
+        ensures { result ≡ most_of (away_from self.now.from (points_in self.now.rest)) }
+    {
+        let mut m = 0.0;
+        for node in self.rest.nodes {
+            m = reach(m, self.of(*node));
+        }
+        m
+    }
+
+    // The largest length: the root grows with d · d, so one root is enough.
+    #[tactic(auto, using(crate::proofs::OneRoot::extent_root))]
+    fn extent(&self) -> f64
+        ensures { result ≡ extent_of (away_from self.now.from (points_in self.now.rest)) }
+    {
+        floats::sqrt(self.most())
+    }
+
+    // The first that is longer than eps.
+    fn direction(&self, eps: f64) -> Option<Point>
+        ensures { MatchOption result (direction_of eps (away_from self.now.from (points_in self.now.rest)) ≡ []) (λ d. direction_of eps (away_from self.now.from (points_in self.now.rest)) ≡ d ∷ []) }
+    {
+        for node in self.rest.nodes {
+            let d = self.of(*node);
+            if geometry::longer(d, eps) {
+                return Some(d);
+            }
+        }
+        None
+    }
+
+    // Some difference is thick.
+    fn thick(&self, dir: Point, bound: f64) -> bool
+        ensures { result ≡ thick_of bound dir (away_from self.now.from (points_in self.now.rest)) }
+    {
+        for node in self.rest.nodes {
+            let d = self.of(*node);
+            if thick_at(bound, dir, d) {
+                return true;
+            }
+        }
+        false
+    }
 }
 
 // ---- the test, on nodes that are known to be good
@@ -116,13 +130,14 @@ pub fn area_of(coords: &[f64], nodes: &[u32], tol: f64) -> Area
         coords,
         nodes: &nodes[1..],
     };
-    let far = extent(&rest, o);
+    let differences = Differences { rest, from: o };
+    let far = differences.extent();
     if far <= eps {
         return Area::Together;
     }
-    match direction(&rest, o, eps) {
+    match differences.direction(eps) {
         Some(dir) => {
-            if thick(&rest, o, dir, eps * far) {
+            if differences.thick(dir, eps * far) {
                 Area::Spans
             } else {
                 Area::Thin
