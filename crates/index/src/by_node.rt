@@ -1,10 +1,11 @@
 // The faces by node, read.
 ghost use Rattle.std.specs.Prelude.{◌≡◌, ◌+◌, ◌-◌, ◌≤◌, ◌<◌, length, get_or};
-ghost use Rattle.counting.specs.Counts.{times};
+ghost use Rattle.counting.specs.Counts.{times, below};
 ghost use Rattle.index.specs.Once.{once};
 ghost use Rattle.index.specs.Faces.{base, start_of, words_of, Indexed};
 
 use crate::Places;
+use std::ops::Range;
 
 // The node sets of the faces and their index, as they stand in `base`.
 #[derive(Clone, Copy)]
@@ -77,5 +78,14 @@ impl<'a> Index<'a> {
         ensures { result ≡ times v (words_of self.now.at (input_of self.now)) }
     {
         self.span(self.at.offsets + v)
+    }
+    // Where they stand.
+    pub fn list(&self, v: usize) -> Range<usize>
+        requires { v < self.now.at.nodes }
+        ensures { (result.start ≡ self.now.at.index + below v (words_of self.now.at (input_of self.now)))
+            × (result.end ≡ result.start + times v (words_of self.now.at (input_of self.now))) }
+    {
+        let k = self.at.offsets + v;
+        self.at.index + self.base[k] as usize..self.at.index + self.base[k + 1] as usize
     }
 }

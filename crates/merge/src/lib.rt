@@ -37,8 +37,8 @@ impl Runs {
             from: [0; 64],
             to: [0; 64],
         };
-        for i in 0..list.len() {
-            let n = o + list[i] as usize;
+        for (i, &n) in list.iter().enumerate() {
+            let n = o + n as usize;
             runs.from[i] = x + base[n] as usize;
             runs.to[i] = x + base[n + 1] as usize;
         }

@@ -4,21 +4,22 @@ use mathlib.Core.Path.{◌≡◌, sym, ap, ap₂, ◌∙◌, subst}
 use mathlib.Core.Bool.{true}
 use mathlib.Core.List.{List}
 use native.Mathlib.Omega.{arith}
-use lib.ListN.{length, get_or, take, drop, length-take}
+use lib.ListN.{length, take, drop, length-take}
 use lib.Seq.{get_or-take, get_or-drop}
 use Rattle.laws.specs.Lists.{keep, elem}
 use Rattle.laws.proofs.Stores.{region-take}
+use Rattle.counting.specs.Counts.{times, below}
 use Rattle.counting.proofs.CountLaws.{below_suc}
 use Rattle.index.specs.declared.Places.{Places}
 use Rattle.index.specs.declared.by_node.Index.{Index}
-use Rattle.index.specs.Read.{set_of}
+use Rattle.index.specs.Read.{input_of, set_of}
 use Rattle.index.specs.Faces.{input, base, nodes_of, words_of, Indexed}
 use Rattle.merge.specs.Runs.{rest}
 use Rattle.index.proofs.Read.{below_words}
 use Rattle.seek.proofs.Searching.{input_base}
 use Rattle.triple_keys.specs.Keys.{Keyed}
 use Rattle.triples.specs.Hits.{Beside}
-use Rattle.triples.proofs.OneList.{slot_low, within, all_faces, the_list, x_is, e_is}
+use Rattle.triples.proofs.OneList.{ends_in, within, all_faces, the_list}
 use Rattle.triples.proofs.Found.{keyed_beside}
 use Rattle.layout.specs.declared.Layout.{Layout}
 use Rattle.layout.specs.Tables.{Faced, Standing}
@@ -67,14 +68,17 @@ module _ (l : Layout) (q : Places) (w : List ℕ) (s : Standing l w) (kd : Keyed
       bs : Beside l.at q b
       bs = keyed_beside l.at q b kd
 
-      -- its offset and the next lie within the slice
-      pub slot_in : (q.offsets + v + 1 < length w) × (q.index ≤ length w)
-      slot_in = omega (arith, slot_low l.at q w room bs v low, room)
+      -- which has a list
+      pub list_low : v < ix.at.nodes
+      list_low = omega (arith, low, ap (λ (at : Places). at.nodes) is.1)
 
-      module _ (x y : ℕ) (is_x : x ≡ q.index + get_or w (q.offsets + v) 0) (is_y : y ≡ q.index + get_or w (q.offsets + v + 1) 0) where
+      module _ (x y : ℕ) (ends : (x ≡ ix.at.index + below v (words_of ix.at (input_of ix))) × (y ≡ x + times v (words_of ix.at (input_of ix)))) where
+        at : (x ≡ q.index + below v (words_of q (input q b))) × (y ≡ x + times v (words_of q (input q b)))
+        at = ends_in l.at ix w v kd.found is ends
+
         -- within the slice
         pub ends_in_lem : (x ≤ y) × (y ≤ l.at.found) × (l.at.found ≤ length w)
-        ends_in_lem = let o = within l.at q w room bs v low x y is_x is_y in (o.0, o.1, room)
+        ends_in_lem = let o = within l.at q w room bs v low x y at.0 at.1 in (o.0, o.1, room)
 
         -- its words are faces
         pub listed : Listed l g (rest x y w)
@@ -86,15 +90,14 @@ module _ (l : Layout) (q : Places) (w : List ℕ) (s : Standing l w) (kd : Keyed
                   omega (
                     arith,
                     length-take (y - x) (drop x w),
-                    x_is l.at q w room bs v low x y is_x is_y,
-                    e_is l.at q w room bs v low x y is_x is_y,
+                    at,
                     below_suc v S,
                     below_words q b kd.indexed (suc v),
                     kd.indexed.small.0,
                   );
               faces = λ i k.
                   let n : i < y - x = omega (arith, k, length-take (y - x) (drop x w)) in
-                  let f = all_faces l.at q w room bs v low x y is_x is_y (x + i) (omega arith) (omega (arith, n)) in
+                  let f = all_faces l.at q w room bs v low x y at.0 at.1 (x + i) (omega arith) (omega (arith, n)) in
                   rw (get_or-take (y - x) (drop x w) i 0 n ∙ get_or-drop x w i 0 ∙ sym (get_or-take l.at.found w (x + i) 0 (omega (arith, n, ends_in_lem)))) f;
             }
 
@@ -102,6 +105,6 @@ module _ (l : Layout) (q : Places) (w : List ℕ) (s : Standing l w) (kd : Keyed
         pub all_alike : keep (same_as l (input l.at w) g) (rest x y w) ≡ alike l (input l.at w) g
         all_alike =
             let same = input_base l.at w s.below in
-            ap₂ (λ (t r : List ℕ). keep (same_as l t g) r) (sym same) (sym (region-take x (y - x) l.at.found w (omega (arith, ends_in_lem))) ∙ the_list l.at q w room bs v low x y is_x is_y)
+            ap₂ (λ (t r : List ℕ). keep (same_as l t g) r) (sym same) (sym (region-take x (y - x) l.at.found w (omega (arith, ends_in_lem))) ∙ the_list l.at q w room bs v low x y at.0 at.1)
             ∙ in_list l (input l.at b) faced g h q (input q b) kd.faces kd.keys v e
             ∙ ap (λ (t : List ℕ). alike l t g) same

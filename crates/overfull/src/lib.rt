@@ -91,12 +91,9 @@ fn count_alike(t: &Tables, by: Places, g: usize) -> Tally
     requires g_lt_faces { (g < t.now.layout.now.at.faces) × Keyed t.now.layout.now.at by (base t.now.layout.now.at t.now.work.now) }
     ensures { result ≡ tallied g (alike t.now.layout.now (faced_in t.now) g) start }
 {
-    let work = t.work;
-    let v = rarest(&Index::new(work, by), g);
-    let slot = by.offsets + v;
-    let x = by.index + work[slot] as usize;
-    let e = by.index + work[slot + 1] as usize;
-    walk(t, g, &work[x..e])
+    let ix = Index::new(t.work, by);
+    let v = rarest(&ix, g);
+    walk(t, g, &t.work[ix.list(v)])
 }
 
 // The finding of face g, where it is the first of more than two with its key.

@@ -6,8 +6,8 @@ use mathlib.Core.List.{List}
 use native.Mathlib.Omega.{arith}
 use borrow.Author.Tests.{ltb-true}
 use lib.Dec.{leb, ltb}
-use lib.ListN.{length, get_or}
-use lib.Seq.{get_or-take, length-take-le}
+use lib.ListN.{length, get_or, take}
+use lib.Seq.{length-take-le}
 use Rattle.laws.specs.Lists.{keep, up_from, elem}
 use Rattle.laws.specs.Merging.{region}
 use Rattle.std.proofs.lemmas.Bool.{and_parts}
@@ -16,20 +16,28 @@ use Rattle.laws.proofs.Ascending.{elem-keep, elem-up_from}
 use Rattle.counting.specs.Counts.{times, below}
 use Rattle.counting.proofs.CountLaws.{below_suc}
 use Rattle.index.specs.declared.Places.{Places}
+use Rattle.index.specs.declared.by_node.Index.{Index}
+use Rattle.index.specs.Read.{input_of}
 use Rattle.index.specs.Faces.{input, base, nodes_of, words_of, faces_with}
 use Rattle.merge.specs.Runs.{rest}
 use Rattle.ascending.proofs.Adding.{get_or_in}
 use Rattle.seek.specs.Candidates.{shares}
-use Rattle.index.proofs.Read.{below_words}
+use Rattle.index.proofs.Read.{of_index, below_words}
 use Rattle.triples.specs.Hits.{hits_by, Beside}
 
--- its slot, and the one behind it, lie below `found`, and so does the index
-pub slot_low : (p q : Places) (w : List ℕ) → p.found ≤ length w → Beside p q (base p w) → (m : ℕ) → m < q.nodes
-    → (q.offsets + m + 1 < p.found) × (q.index ≤ p.found)
-slot_low p q w room s m low = omega (arith, low, s.indexed.index_at, s.indexed.whole, length-take-le p.found w room)
+-- an index that is read below `found` of another stands in what that one reads
+pub second : (p : Places) {q : Places} (i : Index) (w : List ℕ) → q.found ≡ p.found → (i.base.now ≡ base q w) × (i.at ≡ q) → (i.base.now ≡ base p w) × (i.at ≡ q)
+second p i w same e = (e.0 ∙ ap (λ (k : ℕ). take k w) same, e.1)
+
+-- so do the ends of a key's list
+pub ends_in : (p : Places) {q : Places} (i : Index) (w : List ℕ) (m : ℕ) {x e : ℕ} → q.found ≡ p.found → (i.base.now ≡ base q w) × (i.at ≡ q)
+    → (x ≡ i.at.index + below m (words_of i.at (input_of i))) × (e ≡ x + times m (words_of i.at (input_of i)))
+    → (x ≡ q.index + below m (words_of q (input q (base p w)))) × (e ≡ x + times m (words_of q (input q (base p w))))
+ends_in p i w m {x = x} {e = e} same is h =
+    of_index i (λ (r : Places) (b : List ℕ). (x ≡ r.index + below m (words_of r (input r b))) × (e ≡ x + times m (words_of r (input r b)))) (second p i w same is) h
 
 module _ (p q : Places) (w : List ℕ) (room : p.found ≤ length w) (s : Beside p q (base p w)) (m : ℕ) (low : m < q.nodes) (x e : ℕ)
-    (is_x : x ≡ q.index + get_or w (q.offsets + m) 0) (is-e : e ≡ q.index + get_or w (q.offsets + m + 1) 0) where
+    (is_x : x ≡ q.index + below m (words_of q (input q (base p w)))) (is_e : e ≡ x + times m (words_of q (input q (base p w)))) where
   abbrev B : List ℕ
   B = base p w
 
@@ -43,29 +51,15 @@ module _ (p q : Places) (w : List ℕ) (room : p.found ≤ length w) (s : Beside
   pub long : length B ≡ p.found
   long = length-take-le p.found w room
 
-  -- an offset, read
-  read : (k : ℕ) → k < q.nodes + 2 → get_or w (q.offsets + k) 0 ≡ below k S
-  read k h = sym (get_or-take p.found w (q.offsets + k) 0 (omega (arith, long, s.indexed.index_at, s.indexed.whole))) ∙ s.indexed.offset k h
-
-  -- where the list starts
-  pub x_is : x ≡ q.index + below m S
-  x_is = is_x ∙ ap (λ (j : ℕ). q.index + j) (read m (omega arith))
-
-  -- and ends
-  pub e_is : e ≡ q.index + (below m S + times m S)
-  e_is =
-      let j : q.offsets + m + 1 ≡ q.offsets + suc m = omega arith in
-      is-e ∙ ap (λ (k : ℕ). q.index + get_or w k 0) j ∙ ap (λ (k : ℕ). q.index + k) (read (suc m) (omega arith) ∙ below_suc m S)
-
   -- it lies below `found`
   pub within : (x ≤ e) × (e ≤ p.found)
-  within = omega (arith, x_is, e_is, below_suc m S, below_words q B s.indexed (suc m), s.indexed.whole, long)
+  within = omega (arith, is_x, is_e, below_suc m S, below_words q B s.indexed (suc m), s.indexed.whole, long)
 
   -- it is the list of m
   pub the_list : rest x e B ≡ faces_with q t m
   the_list =
-      let d : e - x ≡ times m S = omega (arith, x_is, e_is) in
-      ap₂ (λ (i k : ℕ). region i k B) x_is d ∙ s.indexed.part m low
+      let d : e - x ≡ times m S = omega (arith, is_e) in
+      ap₂ (λ (i k : ℕ). region i k B) is_x d ∙ s.indexed.part m low
 
   -- of faces
   pub all_faces : (i : ℕ) → x ≤ i → i < e → get_or B i 0 < p.faces

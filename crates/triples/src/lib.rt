@@ -152,10 +152,8 @@ impl Seeking {
         requires beside { Beside self.now.at self.now.by (base self.now.at work.old) × (v < self.now.by.nodes) }
         ensures { Added self.now.at (hits_by self.now.at self.now.by (base self.now.at work.old) self.now.lo v) n work.old result work.new }
     {
-        let slot = self.by.offsets + v;
-        let x = self.by.index + work[slot] as usize;
-        let e = self.by.index + work[slot + 1] as usize;
-        self.walk(work, n, x, e)
+        let ends = Index::new(work, self.by).list(v);
+        self.walk(work, n, ends.start, ends.end)
     }
 
     // All faces that have one of the keys that stand from s to e.

@@ -1,21 +1,15 @@
 -- `triples::Seeking::seek_short` meets its contract. Its keys, then its nodes but two (`short_sought`).
 use Prim.Native.Nat.{ℕ, ◌+◌, ◌<◌}
-use mathlib.Core.Path.{◌≡◌, ap, ◌∙◌}
+use mathlib.Core.Path.{◌≡◌, ap}
 use mathlib.Core.List.{List}
 use native.Mathlib.Omega.{arith}
-use lib.ListN.{length, get_or, take}
+use lib.ListN.{length, get_or}
 use lib.Seq.{length-take-le}
-use Rattle.index.specs.declared.Places.{Places}
-use Rattle.index.specs.declared.by_node.Index.{Index}
 use Rattle.index.specs.Faces.{base}
-use Rattle.triple_keys.specs.Keys.{Keyed}
+use Rattle.triples.proofs.OneList.{second}
 use Rattle.triples.proofs.Steps.{step_open, step_base, step_beside}
 use Rattle.triples.proofs.Found.{none_open, keyed_beside, nodes_at, nodes_fit, nodes_known, short_sought}
 use Rattle.triples.proofs.Seeking.seek_short.Goals as goal
-
--- the second index stands in what is read
-second : {p q : Places} (i : Index) (w : List ℕ) → Keyed p q (base p w) → (i.base.now ≡ base q w) × (i.at ≡ q) → (i.base.now ≡ base p w) × (i.at ≡ q)
-second i w kd e = (e.0 ∙ ap (λ (k : ℕ). take k w) kd.found, e.1)
 
 pub overflow_add-a : goal.overflow_add-a
 overflow_add-a c =
@@ -26,7 +20,7 @@ overflow_add-a c =
     let lo_face : a.self.now.lo < a.self.now.by.faces = omega (arith, c.requires.ready.0.face, kd.faces) in
     let x = c.set_start-a in
     let n = c.set_size-k in
-    omega (arith, nodes_fit a.self.now.by b kd.indexed a.self.now.lo x.result (x.result + n.result) lo_face (nodes_at c.new-keys.result (second c.new-keys.result c.args.work.now c.requires.ready.1 c.new-keys.ensures) a.self.now.lo x.result n.result x.ensures n.ensures), long, c.requires.ready.0.room)
+    omega (arith, nodes_fit a.self.now.by b kd.indexed a.self.now.lo x.result (x.result + n.result) lo_face (nodes_at c.new-keys.result (second a.self.now.at c.new-keys.result c.args.work.now c.requires.ready.1.found c.new-keys.ensures) a.self.now.lo x.result n.result x.ensures n.ensures), long, c.requires.ready.0.room)
 
 pub walk_keys-n-requires-clause-beside : goal.walk_keys-n-requires-clause-beside
 walk_keys-n-requires-clause-beside c =
@@ -37,7 +31,7 @@ walk_keys-n-requires-clause-beside c =
     let lo_face : a.self.now.lo < a.self.now.by.faces = omega (arith, c.requires.ready.0.face, kd.faces) in
     let x = c.set_start-a in
     let n = c.set_size-k in
-    let keys = nodes_at c.new-keys.result (second c.new-keys.result c.args.work.now c.requires.ready.1 c.new-keys.ensures) a.self.now.lo x.result n.result x.ensures n.ensures in (
+    let keys = nodes_at c.new-keys.result (second a.self.now.at c.new-keys.result c.args.work.now c.requires.ready.1.found c.new-keys.ensures) a.self.now.lo x.result n.result x.ensures n.ensures in (
       keyed_beside a.self.now.at a.self.now.by b kd,
       omega (arith, nodes_fit a.self.now.by b kd.indexed a.self.now.lo x.result (x.result + n.result) lo_face keys, long),
       nodes_known a.self.now.by b kd.indexed a.self.now.lo x.result (x.result + n.result) lo_face keys,
@@ -76,7 +70,7 @@ returns c =
     let w = a.work.now in
     let x = c.set_start-a in
     let n = c.set_size-k in
-    let keys = nodes_at c.new-keys.result (second c.new-keys.result c.args.work.now c.requires.ready.1 c.new-keys.ensures) a.self.now.lo x.result n.result x.ensures n.ensures in
+    let keys = nodes_at c.new-keys.result (second a.self.now.at c.new-keys.result c.args.work.now c.requires.ready.1.found c.new-keys.ensures) a.self.now.lo x.result n.result x.ensures n.ensures in
     let k = c.walk_keys-n in
     let f = c.walk_rare in
     short_sought a.self.now.at a.self.now.by a.self.now.lo a.s a.e x.result (x.result + n.result) w c.requires.ready.0 c.requires.ready.1 k.result k.new.work f.result f.new.work
