@@ -87,7 +87,7 @@ fn put_weld(model: &Accepted, work: &mut [u32])
 {
     let m = model.model;
     let n = m.node_count();
-    welding::weld_named(m.coords, m.words, m.tolerance, work, n);
+    welding::weld_named(&m, work);
     work.copy_within(n + n..n + n + n, 0);
 }
 

@@ -20,7 +20,7 @@ fn store(accepted: &Accepted, raw: &mut [u32], welded: &mut [u32], work: &mut [u
     let m = accepted.model;
     let n = m.node_count();
     let r = rings::put_cells(accepted, raw, 0);
-    welding::weld_named(m.coords, m.words, m.tolerance, work, n);
+    welding::weld_named(&m, work);
     welding::put_welded(&raw[..r], work, n + n, n, welded);
     work[..accepted.work_needed()].fill(0);
 }

@@ -1,6 +1,6 @@
 -- The nodes that words name, marked and then listed, and the map over them.
 use Prim.Native.Nat.{ℕ, zero, suc, ◌+◌, ◌*◌, ◌≤◌, ◌<◌}
-use mathlib.Core.Path.{◌≡◌, refl, sym, ap, ◌∙◌}
+use mathlib.Core.Path.{◌≡◌, refl, sym, ap, ◌∙◌, subst}
 use mathlib.Core.Logic.{◌≢◌}
 use mathlib.Core.Bool.{Bool, true, false, not, or-false}
 use mathlib.Core.List.{List, [], ◌∷◌, ◌++◌, append-nil}
@@ -124,7 +124,16 @@ module _ (n : ℕ) (ns w : List ℕ) (room : 3 * n ≤ length w) (low : AllBelow
 
 -- ---- the map over them
 
--- l is the list in front of w, which is then welded to v
-pub named_welded : (c : List Float) (t : Float) (n r : ℕ) (l w₀ w v : List ℕ) → n ≡ node_count c → region 0 r w ≡ l → But 0 (n + n + n) w₀ w
-    → (region (n + n) n v ≡ welded c t n (region 0 r w)) × But 0 (n + n + n) w v → (region (n + n) n v ≡ welded c t (node_count c) l) × But 0 (n + n + n) w₀ v
-named_welded c t n r l w₀ w v is e b q = (q.0 ∙ ap (welded c t n) e ∙ ap (λ (k : ℕ). welded c t k l) is, (refl, q.1.1 ∙ b.1))
+module _ (c : List Float) (t : Float) (n : ℕ) (is : n ≡ node_count c) where
+  -- the map of n nodes is that of all nodes
+  pub all_nodes : (l w v : List ℕ) → (region (n + n) n v ≡ welded c t n l) × But 0 (n + n + n) w v
+      → (region (node_count c + node_count c) (node_count c) v ≡ welded c t (node_count c) l) × But 0 (node_count c + node_count c + node_count c) w v
+  all_nodes l w v q = subst (λ (k : ℕ). (region (k + k) k v ≡ welded c t k l) × But 0 (k + k + k) w v) is q
+
+  -- l is the list in front of w, which is then welded to v
+  pub named_welded : (r : ℕ) (l w₀ w v : List ℕ) → region 0 r w ≡ l → But 0 (n + n + n) w₀ w
+      → (region (n + n) (node_count c) v ≡ welded c t (node_count c) (region 0 r w)) × But 0 (n + n + node_count c) w v
+      → (region (node_count c + node_count c) (node_count c) v ≡ welded c t (node_count c) l) × But 0 (node_count c + node_count c + node_count c) w₀ v
+  named_welded r l w₀ w v e b q =
+      all_nodes l w₀ v (subst (λ (k : ℕ). (region (n + n) k v ≡ welded c t k (region 0 r w)) × But 0 (n + n + k) w v → (region (n + n) n v ≡ welded c t n l) × But 0 (n + n + n) w₀ v) is
+      (λ p. (p.0 ∙ ap (welded c t n) e, (refl, p.1.1 ∙ b.1))) q)

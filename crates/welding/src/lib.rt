@@ -60,18 +60,19 @@ fn list_named(words: &[u32], work: &mut [u32], n: usize) -> usize
 }
 
 // The welded numbers of all n nodes stand in work from 2n on: the nodes that the words name are welded.
-pub fn weld_named(coords: &[f64], words: &[u32], tol: f64, work: &mut [u32], n: usize)
-    requires { (n ≡ node_count coords.now) × (3 * n ≤ length work.old) × (n < 2 ^ 32) × (coordinates_off coords.now ≡ false) × AllBelow n (nodes_in words.now) }
-    ensures { (region (n + n) n work.new ≡ welded_over coords.now tol words.now) × But 0 (n + n + n) work.old work.new }
+pub fn weld_named(model: &Model, work: &mut [u32])
+    requires { (3 * node_count model.now.coords.now ≤ length work.old) × (node_count model.now.coords.now < 2 ^ 32) × (coordinates_off model.now.coords.now ≡ false) × AllBelow (node_count model.now.coords.now) (nodes_in model.now.words.now) }
+    ensures { (region (node_count model.now.coords.now + node_count model.now.coords.now) (node_count model.now.coords.now) work.new ≡ welded_over model.now.coords.now model.now.tolerance model.now.words.now) × But 0 (node_count model.now.coords.now + node_count model.now.coords.now + node_count model.now.coords.now) work.old work.new }
 {
-    if tol == 0.0 {
+    let n = model.node_count();
+    if model.tolerance == 0.0 {
         snap::number(&mut work[n + n..n + n + n]);
         return;
     }
-    let used = list_named(words, work, n);
+    let used = list_named(model.words, work, n);
     let space = Space {
-        coords,
-        tolerance: tol,
+        coords: model.coords,
+        tolerance: model.tolerance,
     };
     space.weld_in(work, 0, n, n + n, used);
 }
@@ -99,7 +100,7 @@ pub fn weld(model: &Model, map: &mut [u32], scratch: &mut [u32]) -> Result<(), R
     if scratch.len() < 3 * n {
         return Err(Refusal::Room);
     }
-    weld_named(model.coords, model.words, model.tolerance, scratch, n);
+    weld_named(model, scratch);
     map[..n].copy_from_slice(&scratch[n + n..n + n + n]);
     scratch[..3 * n].fill(0);
     Ok(())

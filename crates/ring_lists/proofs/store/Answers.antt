@@ -5,14 +5,11 @@ use mathlib.Core.List.{map, ◌++◌}
 use lib.ListN.{length, take, drop, replicate}
 use lib.Seq.{sets, length-take-le}
 use Rattle.snap.specs.Weld.{welded_by}
-use Rattle.snap.specs.Steps.{But}
-use Rattle.welding.specs.Steps.{welded_over}
 use Rattle.laws.specs.Limits.{node_limit}
 use Rattle.laws.specs.Merging.{AllBelow, region}
 use Rattle.laws.proofs.Stores.{cleared, filled_front}
 use Rattle.geometry.specs.Coordinates.{node_count}
 use Rattle.mesh.specs.Lent.{lent}
-use Rattle.mesh.specs.Rings.{nodes_in}
 use Rattle.mesh.proofs.Accepts.{accepts}
 use Rattle.mesh.proofs.CellWords.{words_low, few_nodes}
 use Rattle.mesh.proofs.ModelTable.{work_room}
@@ -30,8 +27,7 @@ weld_named-requires c =
     let m = lent s.model in
     let h = accepts m s.accepted in
     let few : node_count m.coords ≤ node_limit = few_nodes m h in
-    let e = c.node_count-n.ensures in
-    (e, omega (arith, work_room m, c.requires.work_in_bounds, e), omega (arith, e), h.places, subst (λ (n : ℕ). AllBelow n (nodes_in m.words)) (sym e) (words_low m h))
+    (omega (arith, work_room m, c.requires.work_in_bounds), omega arith, h.places, words_low m h)
 
 pub overflow_add-n : goal.overflow_add-n
 overflow_add-n c =
@@ -77,12 +73,11 @@ returns c =
     let f = front m s.accepted c.args.raw.now _ c.requires.raw_in_bounds p.ensures.1 _ p.ensures.0 in
     let N = node_count m.coords in
     let left = c.fill.new.self ++ drop c.work_needed.result q.new.work in
-    let named = subst (λ (k : ℕ). (region (k + k) k q.new.work ≡ welded_over m.coords m.tolerance m.words) × But 0 (k + k + k) c.args.work.now q.new.work) n q.ensures in
     record {
       raw_is = raw_stored m s.accepted c.args.raw.now _ c.requires.raw_in_bounds p.ensures.1;
-      welded_is = welded_stored m s.accepted c.args.welded.now _ _ _ named.0 f
+      welded_is = welded_stored m s.accepted c.args.welded.now _ _ _ q.ensures.0 f
           (subst (λ (k : ℕ). c.put_welded.new.out ≡ sets c.args.welded.now 0 (map (welded_by (region (k + k) k q.new.work)) (take p.result p.new.out))) n c.put_welded.ensures);
       work_is = subst (λ (k : ℕ). left ≡ sets c.args.work.now 0 (replicate k 0)) c.work_needed.ensures
           (filled_front q.new.work c.work_needed.result 0 (omega (arith, q.auto.work, c.requires.work_in_bounds, c.work_needed.ensures)) (c.fill.ensures.after (λ y e. e))
-          ∙ cleared c.args.work.now _ (N + N + N) c.work_needed.result named.1.1 (omega (arith, work_room m, c.work_needed.ensures)) (omega (arith, c.work_needed.ensures, c.requires.work_in_bounds)) q.auto.work);
+          ∙ cleared c.args.work.now _ (N + N + N) c.work_needed.result q.ensures.1.1 (omega (arith, work_room m, c.work_needed.ensures)) (omega (arith, c.work_needed.ensures, c.requires.work_in_bounds)) q.auto.work);
     }

@@ -3,20 +3,17 @@ use Prim.Native.Nat.{ℕ, ◌+◌, ◌-◌, ◌*◌, ◌≤◌, ◌<◌}
 use mathlib.Core.Path.{◌≡◌, sym, ap, ◌∙◌, subst}
 use mathlib.Core.List.{List, ◌++◌}
 use native.Mathlib.Omega.{arith}
-use lib.ListN.{length, take, drop, replicate, length-replicate}
-use lib.Seq.{sets, length-take-le}
+use lib.ListN.{length, take, drop, replicate}
+use lib.Seq.{sets}
 use Rattle.laws.specs.Limits.{node_limit}
-use Rattle.laws.specs.Merging.{AllBelow, region}
+use Rattle.laws.specs.Merging.{region}
 use Rattle.laws.proofs.Stores.{filled_front}
-use Rattle.snap.specs.Steps.{But}
 use Rattle.refusals.specs.declared.Refusal.TheVariants.{Room}
 use Rattle.refusals.proofs.Told.{number-positive, told_ok, told_err, err_passed}
 use Rattle.geometry.specs.Coordinates.{node_count}
 use Rattle.mesh.specs.Lent.{lent}
-use Rattle.mesh.specs.Rings.{nodes_in}
 use Rattle.mesh.specs.declared.CellTally.{CellTally}
 use Rattle.mesh.proofs.CellWords.{words_low, few_nodes}
-use Rattle.welding.specs.Steps.{welded_over}
 use Rattle.welding.proofs.Answers.{row_mesh, row_map, row_scratch, unflagged, accepts_mesh, refusing, filling}
 use Rattle.welding.proofs.weld.Goals as goal
 
@@ -52,7 +49,7 @@ weld_named-requires c =
     let z = told_ok {A = CellTally} {B = Unit {0}} _ c.in_ok-judge_mesh.field-0 _ _ c.in_ok-judge_mesh.ensures.answered in
     let h = accepts_mesh m z.0 in
     let few : node_count m.coords ≤ node_limit = few_nodes (unflagged m) h in
-    (c.node_count-n.ensures, omega arith, omega arith, h.places, subst (λ (n : ℕ). AllBelow n (nodes_in m.words)) (sym c.node_count-n.ensures) (words_low (unflagged m) h))
+    (omega arith, omega arith, h.places, words_low (unflagged m) h)
 
 pub returns : goal.returns
 returns c =
@@ -63,7 +60,7 @@ returns c =
     let W = c.weld_named in
     let n = c.node_count-n.ensures in
     filling m c.args.map.now c.args.scratch.now _ W.new.work _ z.0 room words W.auto.work
-    (subst (λ (k : ℕ). (region (k + k) k W.new.work ≡ welded_over m.coords m.tolerance m.words) × But 0 (k + k + k) c.args.scratch.now W.new.work) n W.ensures)
+    W.ensures
     (ap (λ (l : List ℕ). l ++ drop c.node_count-n.result c.args.map.now) (c.copy_from_slice.ensures.after ∙ third W.new.work c.node_count-n.result)
     ∙ ap (λ (k : ℕ). region (k + k) k W.new.work ++ drop k c.args.map.now) n)
     (subst (λ (k : ℕ). c.fill.new.self ++ drop (3 * c.node_count-n.result) W.new.work ≡ sets W.new.work 0 (replicate (3 * k) 0)) n
