@@ -37,11 +37,11 @@ pub struct Place<'a> {
 }
 
 // Ring `face` of a PHED.
-fn phed_span(words: &[u32], face: usize) -> Span
-    requires { (face < length (phed_rings words.now)) × (length words.now < 4294967296) }
-    ensures { SpanIn (phed_rings words.now) face result }
+fn phed_span(cell: &Cell, face: usize) -> Span
+    requires { face < length (phed_rings cell.now.words.now) }
+    ensures { SpanIn (phed_rings cell.now.words.now) face result }
 {
-    let mut rings = PhedRings::new(words);
+    let mut rings = PhedRings::new(cell.words);
     let mut start = 0;
     for _ in 0..face {
         start += rings.next().unwrap().len();
@@ -59,7 +59,7 @@ pub fn cell_span(cell: &Cell, face: usize) -> Span
         Kind::Hex8 => Span::new(4 * face, 4),
         Kind::Wedge6 if face < 2 => Span::new(3 * face, 3),
         Kind::Wedge6 => Span::new(4 * face - 2, 4),
-        Kind::Phed => phed_span(cell.words, face),
+        Kind::Phed => phed_span(cell, face),
     }
 }
 

@@ -1,7 +1,7 @@
 // Tables of an accepted model's faces, each written by one pass over the cells: where each ring starts, the first face of each cell, and the cell of each face.
 #![tactic(auto)]
 
-ghost use Rattle.std.specs.Prelude.{◌≡◌, map, ◌+◌, ◌≤◌, ◌<◌, length, replicate};
+ghost use Rattle.std.specs.Prelude.{◌≡◌, map, ◌+◌, ◌≤◌, length, replicate};
 ghost use Rattle.std.proofs.lemmas.List.Edits.{sets};
 ghost use Rattle.laws.specs.Merging.{starts_of};
 ghost use Rattle.mesh.specs.Model.{cells_of};
@@ -25,13 +25,13 @@ fn put_copies(n: usize, v: u32, work: &mut [u32], at: usize) -> usize
 }
 
 // The lengths of a PHED's rings; answers the place behind them.
-fn phed_lengths(words: &[u32], work: &mut [u32], at: usize) -> usize
-    requires { (length words.now < 4294967296) × (at + length (phed_rings words.now) ≤ length work.old) }
-    ensures { WordsPut (map length (phed_rings words.now)) work.old work.new at result }
+fn phed_lengths(cell: &Cell, work: &mut [u32], at: usize) -> usize
+    requires { at + length (phed_rings cell.now.words.now) ≤ length work.old }
+    ensures { WordsPut (map length (phed_rings cell.now.words.now)) work.old work.new at result }
 {
     // k goes up by hand: it is the answer
     let mut k = at;
-    for ring in PhedRings::new(words) {
+    for ring in PhedRings::new(cell.words) {
         work[k] = ring.len() as u32;
         k += 1;
     }
@@ -50,7 +50,7 @@ fn cell_lengths(cell: &Cell, work: &mut [u32], at: usize) -> usize
             let k = put_copies(2, 3, work, at);
             put_copies(3, 4, work, k)
         }
-        Kind::Phed => phed_lengths(cell.words, work, at),
+        Kind::Phed => phed_lengths(cell, work, at),
     }
 }
 

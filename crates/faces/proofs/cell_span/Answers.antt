@@ -51,7 +51,7 @@ returns-in-Wedge6-2 c =
 pub phed_span-requires : goal.phed_span-requires
 phed_span-requires c =
     let x = c.args.cell.now in
-    (of_rings c.args.face (phed_is _ x.words.now (ap kind_number c.in-Phed.is)) c.requires, omega (arith, x.small))
+    of_rings c.args.face (phed_is _ x.words.now (ap kind_number c.in-Phed.is)) c.requires
 
 pub returns-in-Phed : goal.returns-in-Phed
 returns-in-Phed c = span_of_rings (phed_is _ c.args.cell.now.words.now (ap kind_number c.in-Phed.is)) c.phed_span.ensures

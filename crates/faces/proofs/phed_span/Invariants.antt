@@ -7,4 +7,4 @@ use Rattle.faces.proofs.phed_span.Given as goal
 
 abbrev pub invariant-loop : goal.invariant-loop
 invariant-loop l =
-    (phed_rest l.rings ≡ drop l.counter (phed_rings l.words)) × (l.start ≡ ring_total (take l.counter (phed_rings l.words)))
+    (phed_rest l.rings ≡ drop l.counter (phed_rings l.cell.words.now)) × (l.start ≡ ring_total (take l.counter (phed_rings l.cell.words.now)))

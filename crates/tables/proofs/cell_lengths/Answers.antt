@@ -69,7 +69,7 @@ returns-in-Wedge6 c =
 pub phed_lengths-requires : goal.phed_lengths-requires
 phed_lengths-requires c =
     let x = c.args.cell.now in
-    (omega (arith, x.small), omega (arith, c.requires, ap length (phed_is _ x.words.now (ap kind_number c.in-Phed.is))))
+    omega (arith, c.requires, ap length (phed_is _ x.words.now (ap kind_number c.in-Phed.is)))
 
 pub returns-in-Phed : goal.returns-in-Phed
 returns-in-Phed c =

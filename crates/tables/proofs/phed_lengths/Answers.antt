@@ -15,12 +15,12 @@ pub loop-ring-init : goal.loop-ring-init
 loop-ring-init c =
     let a = c.args in
     let e = ap phed_rest c.into_iter-ring-iterator.ensures.into_iter_gives ∙ ap phed_rings c.new-ring-items.ensures in
-    (putting_start a.work.now a.at _ _ (ap (λ (r : List (List ℕ)). map length r) e), omega (arith, phed_few a.words.now, ap ring_total e))
+    (putting_start a.work.now a.at _ _ (ap (λ (r : List (List ℕ)). map length r) e), omega (arith, phed_few a.cell.now.words.now, ap ring_total e))
 
 pub overflow_cast-work : goal.overflow_cast-work
 overflow_cast-work c =
     let n = ap ring_total c.in-Some.ensures.steps ∙ length-append c.in-Some.ring.now (each (λ (r : List ℕ). r) (phed_rest c.next.new.self)) in
-    omega (arith, n, c.loop-ring.invariant.1, c.requires.0)
+    omega (arith, n, c.loop-ring.invariant.1, c.args.cell.now.small)
 
 pub loop-ring-preserved : goal.loop-ring-preserved
 loop-ring-preserved c =

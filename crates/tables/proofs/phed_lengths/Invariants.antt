@@ -9,5 +9,5 @@ use Rattle.tables.proofs.phed_lengths.Given as goal
 
 abbrev pub invariant-loop-ring : goal.invariant-loop-ring
 invariant-loop-ring l =
-    Putting l.initial.work l.work l.at l.k (map length (phed_rings l.words)) (map length (phed_rest l.ring-iterator))
-    × (ring_total (phed_rest l.ring-iterator) ≤ length l.words)
+    Putting l.initial.work l.work l.at l.k (map length (phed_rings l.cell.words.now)) (map length (phed_rest l.ring-iterator))
+    × (ring_total (phed_rest l.ring-iterator) ≤ length l.cell.words.now)
