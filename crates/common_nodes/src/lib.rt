@@ -3,13 +3,13 @@
 #![tactic(auto)]
 
 ghost use Rattle.std.specs.Prelude.{◌≡◌, ◌<◌, ◌≤◌, length};
-ghost use Rattle.std.proofs.lemmas.List.Edits.{sets};
 ghost use Rattle.geometry.specs.Points.{points_of, centre_of};
 ghost use Rattle.geometry.specs.Coordinates.{node_count};
 ghost use Rattle.area.specs.AreaTest.{area_of, is_spans};
 ghost use Rattle.index.specs.Read.{set_of};
 ghost use Rattle.seek.specs.Candidates.{common};
 
+use arrayvec::ArrayVec;
 use index::Index;
 
 // How many nodes are common, and their centre.
@@ -19,29 +19,26 @@ pub struct Shared {
     pub centre: geometry::Point,
 }
 
-// Those of some words that stand among others, in front of a list; answers how many.
-fn pick(words: &[u32], others: &[u32], own: &mut [u32]) -> usize
-    requires { length words.now ≤ length own.old }
-    ensures { (result ≡ length (common words.now others.now)) × (own.new ≡ sets own.old 0 (common words.now others.now)) }
+// Those of some words that stand among others.
+fn pick(words: &[u32], others: &[u32]) -> ArrayVec<u32, 64>
+    requires { length words.now ≤ 64 }
+    ensures { result.items ≡ common words.now others.now }
 {
-    // a counter beside the loop: a list of fixed memory has no `push`
-    let mut n = 0;
+    let mut own = ArrayVec::new();
     for &v in words {
         if others.contains(&v) {
-            own[n] = v;
-            n += 1;
+            own.push(v);
         }
     }
-    n
+    own
 }
 
-// The nodes of face f that face g has too, kept in a list of 64 words.
-fn common<'a>(ix: &Index, f: usize, g: usize, own: &'a mut [u32; 64]) -> &'a [u32]
+// The nodes of face f that face g has too.
+fn common(ix: &Index, f: usize, g: usize) -> ArrayVec<u32, 64>
     requires { (f < ix.now.at.faces) × (g < ix.now.at.faces) }
-    ensures { result.now ≡ common (set_of ix.now f) (set_of ix.now g) }
+    ensures { result.items ≡ common (set_of ix.now f) (set_of ix.now g) }
 {
-    let n = pick(ix.set(f), ix.set(g), own);
-    &own[..n]
+    pick(ix.set(f), ix.set(g))
 }
 
 // The common nodes span an area.
@@ -50,8 +47,7 @@ pub fn spans(coords: &[f64], tol: f64, ix: &Index, f: usize, g: usize) -> bool
     requires nodes_value { ix.now.at.nodes ≡ node_count coords.now }
     ensures { result ≡ is_spans (area_of tol (points_of coords.now (common (set_of ix.now f) (set_of ix.now g)))) }
 {
-    let mut own = [0; 64];
-    area::common_nodes_span_area(coords, common(ix, f, g, &mut own), tol)
+    area::common_nodes_span_area(coords, common(ix, f, g).as_slice(), tol)
 }
 
 // The number of the common nodes, and their centre.
@@ -61,10 +57,9 @@ pub fn shared_of(coords: &[f64], ix: &Index, f: usize, g: usize) -> Shared
     ensures count_value { (result.count ≡ length (common (set_of ix.now f) (set_of ix.now g))) × (result.count ≤ 64) }
     ensures centre_value { result.centre ≡ centre_of (points_of coords.now (common (set_of ix.now f) (set_of ix.now g))) }
 {
-    let mut own = [0; 64];
-    let nodes = common(ix, f, g, &mut own);
+    let nodes = common(ix, f, g);
     Shared {
         count: nodes.len(),
-        centre: geometry::key_centroid(coords, nodes),
+        centre: geometry::key_centroid(coords, nodes.as_slice()),
     }
 }
