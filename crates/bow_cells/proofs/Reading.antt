@@ -1,10 +1,10 @@
 -- A ring in welded numbers, in front of 64 words.
-use Prim.Native.Nat.{ℕ, ◌≤◌, ◌<◌}
+use Prim.Native.Nat.{ℕ, ◌+◌, ◌-◌, ◌≤◌, ◌<◌}
 use mathlib.Core.Path.{◌≡◌, sym, ap, ap₂, ◌∙◌, subst}
 use mathlib.Core.List.{List, map}
 use native.Mathlib.Omega.{arith}
 use lib.Ieee.{Float}
-use lib.ListN.{length, take, length-map}
+use lib.ListN.{length, take, drop, length-map}
 use lib.Seq.{sets}
 use Rattle.laws.specs.Merging.{region, AllBelow}
 use Rattle.laws.proofs.Stores.{region-take, region_same, length-region}
@@ -13,6 +13,7 @@ use Rattle.geometry.specs.Points.{points_of}
 use Rattle.geometry.specs.Steps.{InNodes}
 use Rattle.bow_tie.specs.BowTie.{bow_tie_of}
 use Rattle.snap.specs.Weld.{welded_by}
+use Rattle.welding.proofs.Through.{slice_region}
 use Rattle.layout.specs.declared.Layout.{Layout}
 use Rattle.layout.specs.Tables.{ring_row, Ringed}
 use Rattle.layout.specs.ByCell.{ring_bow}
@@ -34,11 +35,12 @@ module _ (l : Layout) (w : List ℕ) (f : Ringed l (take l.at.bows w)) (g : ℕ)
   welded_long = length-map (ring_row l (take l.at.bows w) g) (welded_by (region l.weld l.at.nodes (take l.at.bows w))) ∙ ap length (sym is)
 
   -- put in front of 64 words it is their first part
-  pub loaded : (own own' : List ℕ) → length own ≡ 64 → own' ≡ sets own 0 (map (welded_by (region l.weld l.at.nodes w)) ring)
+  pub loaded : (own own' : List ℕ) → length own ≡ 64 → own' ≡ sets own 0 (map (welded_by (take (l.weld + l.at.nodes - l.weld) (drop l.weld w))) ring)
       → take (length ring) own' ≡ welded_ring l (take l.at.bows w) g
   loaded own own' long put =
       let welds_are : region l.weld l.at.nodes w ≡ region l.weld l.at.nodes (take l.at.bows w) = sym (region-take l.weld l.at.nodes l.at.bows w f.weld_at) in
-      ap₂ (λ (m : ℕ) (x : List ℕ). take m x) (sym welded_long) (put ∙ ap₂ (λ (a b : List ℕ). sets own 0 (map (welded_by a) b)) welds_are is)
+      let part = slice_region w l.weld l.at.nodes ∙ welds_are in
+      ap₂ (λ (m : ℕ) (x : List ℕ). take m x) (sym welded_long) (put ∙ ap₂ (λ (a b : List ℕ). sets own 0 (map (welded_by a) b)) part is)
       ∙ region_same own 0 (welded_ring l (take l.at.bows w) g) (omega (arith, welded_long, ring_short, long))
 
   -- it is short, and its words are nodes

@@ -27,7 +27,8 @@ impl Polygons<'_> {
         let l = self.rings.layout;
         let face = self.rings.ring(g);
         let mut ring = [0u32; 64];
-        welding::put_welded(face, self.rings.work, l.weld, l.at.nodes, &mut ring);
+        let welds = &self.rings.work[l.weld..l.weld + l.at.nodes];
+        welding::put_welded(face, welds, &mut ring);
         bow_tie::face_self_intersects(self.coords, &ring[..face.len()], self.tolerance)
     }
 

@@ -6,6 +6,7 @@ use native.Mathlib.Omega.{arith}
 use lib.ListN.{length, take}
 use lib.Seq.{sets}
 use Rattle.laws.specs.Lists.{each}
+use Rattle.laws.specs.Limits.{node_limit}
 use Rattle.laws.specs.Merging.{region, AllBelow}
 use Rattle.laws.proofs.Stores.{region_same}
 use Rattle.geometry.specs.Coordinates.{node_count}
@@ -15,6 +16,7 @@ use Rattle.mesh.specs.Acceptance.{model_refusal}
 use Rattle.mesh.specs.Steps.{ring_total}
 use Rattle.mesh.proofs.ModelTable.{ring_words_lem}
 use Rattle.mesh.proofs.Accepts.{Accepts, accepts}
+use Rattle.mesh.proofs.CellWords.{few_nodes}
 use Rattle.mesh.proofs.NodeNumbers.{cells_below}
 use Rattle.snap.specs.Weld.{welded_by}
 use Rattle.welding.specs.Steps.{welded_over}
@@ -38,6 +40,10 @@ module _ (m : Model) (ok : model_refusal m ≡ 0) where
 
   pub raw_total : length (raw_rings m) ≡ ring_total (each rings_of cells)
   raw_total = ap length raw_is_lem
+
+  -- the nodes are few
+  pub few : (k : ℕ) → k ≡ n → k ≤ node_limit
+  few k e = omega (arith, e, few_nodes m A)
 
   -- the words of the raw list are nodes
   pub raw_below : AllBelow n (raw_rings m)

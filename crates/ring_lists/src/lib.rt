@@ -21,7 +21,7 @@ fn store(accepted: &Accepted, raw: &mut [u32], welded: &mut [u32], work: &mut [u
     let n = m.node_count();
     let r = rings::put_cells(accepted, raw, 0);
     welding::weld_named(&m, work);
-    welding::put_welded(&raw[..r], work, n + n, n, welded);
+    welding::put_welded(&raw[..r], &work[n + n..n + n + n], welded);
     work[..accepted.work_needed()].fill(0);
 }
 

@@ -1,18 +1,17 @@
 -- Words through the welded map.
-use Prim.Native.Nat.{ℕ, ◌+◌, ◌≤◌, ◌<◌}
-use mathlib.Core.Path.{◌≡◌, sym, ap₂, ◌∙◌}
+use Prim.Native.Nat.{ℕ, ◌+◌, ◌-◌, ◌<◌}
+use mathlib.Core.Path.{◌≡◌, sym, ap, ap₂, ◌∙◌}
 use mathlib.Core.List.{List, map}
 use native.Mathlib.Omega.{arith}
-use lib.ListN.{length, get_or, set, take, length-map, get_or-map}
+use lib.ListN.{length, get_or, set, take, drop, length-map, get_or-map}
 use lib.Seq.{sets}
 use Rattle.laws.specs.Merging.{region}
 use Rattle.laws.proofs.ListLaws.{get_or_any}
-use Rattle.laws.proofs.Stores.{sets_more, get_or-region, length-region}
-use Rattle.snap.specs.Weld.{welded_by}
+use Rattle.laws.proofs.Stores.{sets_more}
 
--- what is read from the map's region is the number that the map gives
-pub number_read : (w : List ℕ) (o n k : ℕ) → o + n ≤ length w → k < n → get_or w (o + k) 0 ≡ welded_by (region o n w) k
-number_read w o n k h b = sym (get_or-region o n w k 0 b) ∙ get_or_any (region o n w) k 0 k (omega (arith, length-region o n w h))
+-- the n words of w from o on, as a slice is taken
+pub slice_region : (w : List ℕ) (o n : ℕ) → take (o + n - o) (drop o w) ≡ region o n w
+slice_region w o n = let e : o + n - o ≡ n = omega arith in ap (λ (k : ℕ). take k (drop o w)) e
 
 -- one word more is put through f
 pub map_more : (f : ℕ → ℕ) (out₀ out words : List ℕ) (o i v : ℕ) → out ≡ sets out₀ o (take i (map f words)) → i < length words → v ≡ f (get_or words i 0)

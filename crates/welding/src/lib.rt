@@ -77,13 +77,13 @@ pub fn weld_named(model: &Model, work: &mut [u32])
     space.weld_in(work, 0, n, n + n, used);
 }
 
-// Each of the words through the map of n nodes that stands in work from o on.
-pub fn put_welded(words: &[u32], work: &[u32], o: usize, n: usize, out: &mut [u32])
-    requires { (length words.now ≤ length out.old) × AllBelow n words.now × (o + n ≤ length work.now) }
-    ensures { out.new ≡ sets out.old 0 (map (welded_by (region o n work.now)) words.now) }
+// Each of the words through the map of welded numbers.
+pub fn put_welded(words: &[u32], welds: &[u32], out: &mut [u32])
+    requires { (length words.now ≤ length out.old) × AllBelow (length welds.now) words.now }
+    ensures { out.new ≡ sets out.old 0 (map (welded_by welds.now) words.now) }
 {
     for (i, word) in words.iter().enumerate() {
-        out[i] = work[o + *word as usize];
+        out[i] = welds[*word as usize];
     }
 }
 

@@ -1,9 +1,9 @@
 -- Each return has the tests that led there; the rest is said on lists, in Answers.
-use Prim.Native.Nat.{ℕ, ◌+◌, ◌-◌, ◌*◌, ◌≤◌, ◌<◌}
+use Prim.Native.Nat.{ℕ, ◌+◌, ◌*◌, ◌≤◌, ◌<◌}
 use mathlib.Core.Path.{◌≡◌, sym, ap, ◌∙◌, subst}
 use mathlib.Core.List.{List, ◌++◌}
 use native.Mathlib.Omega.{arith}
-use lib.ListN.{length, take, drop, replicate}
+use lib.ListN.{length, drop, replicate}
 use lib.Seq.{sets}
 use Rattle.laws.specs.Limits.{node_limit}
 use Rattle.laws.specs.Merging.{region}
@@ -15,11 +15,8 @@ use Rattle.mesh.specs.Lent.{lent}
 use Rattle.mesh.specs.declared.CellTally.{CellTally}
 use Rattle.mesh.proofs.CellWords.{words_low, few_nodes}
 use Rattle.welding.proofs.Answers.{row_mesh, row_map, row_scratch, unflagged, accepts_mesh, refusing, filling}
+use Rattle.welding.proofs.Through.{slice_region}
 use Rattle.welding.proofs.weld.Goals as goal
-
--- the words from 2n to 3n
-third : (w : List ℕ) (n : ℕ) → take (n + n + n - (n + n)) (drop (n + n) w) ≡ region (n + n) n w
-third w n = let e : n + n + n - (n + n) ≡ n = omega arith in ap (λ (k : ℕ). take k (drop (n + n) w)) e
 
 pub returns-in_err-judge_mesh : goal.returns-in_err-judge_mesh
 returns-in_err-judge_mesh c =
@@ -61,7 +58,7 @@ returns c =
     let n = c.node_count-n.ensures in
     filling m c.args.map.now c.args.scratch.now _ W.new.work _ z.0 room words W.auto.work
     W.ensures
-    (ap (λ (l : List ℕ). l ++ drop c.node_count-n.result c.args.map.now) (c.copy_from_slice.ensures.after ∙ third W.new.work c.node_count-n.result)
+    (ap (λ (l : List ℕ). l ++ drop c.node_count-n.result c.args.map.now) (c.copy_from_slice.ensures.after ∙ slice_region W.new.work (c.node_count-n.result + c.node_count-n.result) c.node_count-n.result)
     ∙ ap (λ (k : ℕ). region (k + k) k W.new.work ++ drop k c.args.map.now) n)
     (subst (λ (k : ℕ). c.fill.new.self ++ drop (3 * c.node_count-n.result) W.new.work ≡ sets W.new.work 0 (replicate (3 * k) 0)) n
     (filled_front W.new.work (3 * c.node_count-n.result) 0 (omega arith) (c.fill.ensures.after (λ y e. e))))
