@@ -136,7 +136,7 @@ fn damage_all(rt: &impl Print, s: &mut [u8], by: u8) -> io::Result<()> {
     Ok(())
 }
 
-// The file cut short behind each record.
+// The file cut short behind each record, by how many there are: from none on, and to the whole file.
 fn cut_all(rt: &impl Print, s: &[u8]) -> io::Result<()> {
     for n in 0..s.len() / 32 + 1 {
         print!(rt; "{}", letter(trial(&s[..32 * n])))?;
