@@ -68,10 +68,9 @@ put_welded-requires c =
     let n = c.node_count-n.result in
     let e = c.node_count-n.ensures in
     let f = front m s.accepted c.args.raw.now _ c.requires.raw_in_bounds p.ensures.1 _ p.ensures.0 in
-    let room : n + n + n ≤ length w = omega (arith, e, c.weld_named.auto.work, work_room m, c.requires.work_in_bounds) in
-    let long = ap length (slice_region w (n + n) n) ∙ length-region (n + n) n w room ∙ e in (
+    let room = λ (o : ℕ) (h : o ≤ n + n). length-region o n w (omega (arith, h, e, c.weld_named.auto.work, work_room m, c.requires.work_in_bounds)) in (
       omega (arith, ap length f, c.requires.welded_in_bounds),
-      subst (λ (k : ℕ). AllBelow k (take p.result p.new.out)) (sym long) (subst (AllBelow (node_count m.coords)) (sym f) (raw_below m s.accepted)),
+      subst (λ (k : ℕ). AllBelow k (take p.result p.new.out)) (sym (ap length (slice_region w _ n) ∙ room _ (omega arith) ∙ e)) (subst (AllBelow (node_count m.coords)) (sym f) (raw_below m s.accepted)),
     )
 
 pub returns : goal.returns
