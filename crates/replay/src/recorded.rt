@@ -67,6 +67,7 @@ fn is_front(bytes: &[u8], theirs: &[u8]) -> bool {
 // The number in the two bytes from `at` on.
 fn two(head: &[u8; 4], at: usize) -> usize
     requires { at ≤ 2 }
+    ensures { result < 65536 }
 {
     floats::get::<u16, 2>(head, at) as usize
 }
