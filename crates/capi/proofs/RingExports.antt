@@ -1,5 +1,5 @@
 -- From the promises of the ring lookup to the exported one.
-use Prim.Native.Nat.{ℕ, ◌+◌, ◌-◌}
+use Prim.Native.Nat.{ℕ, ◌-◌}
 use mathlib.Core.Path.{◌≡◌, sym, ap, ◌∙◌, subst}
 use mathlib.Core.List.{List, []}
 use native.Mathlib.Omega.{arith}
@@ -11,7 +11,7 @@ use Rattle.refusals.specs.Told.{told_by}
 use Rattle.refusals.proofs.Told.{told_ok}
 use Rattle.mesh.specs.Model.{Model}
 use Rattle.mesh.specs.Lent.{lent}
-use Rattle.mesh.specs.Lookup.{named, lookup_refusal}
+use Rattle.mesh.specs.Lookup.{lookup_refusal}
 use Rattle.mesh.specs.declared.accepted.Accepted.{Accepted}
 use Rattle.faces.specs.Spans.{rings_in, SpanIn}
 use Rattle.faces.proofs.Rings.{ring_at, start_at}
