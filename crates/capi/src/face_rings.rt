@@ -93,7 +93,7 @@ pub extern "C" fn lenoshale_ring_lookup(
         Ok(m) => {
             let s = faces::find_ring(&m, face);
             *start = s.start as u64;
-            *size = s.len as u64;
+            *size = (s.end - s.start) as u64;
             0
         }
     }

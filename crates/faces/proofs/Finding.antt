@@ -5,6 +5,7 @@ use mathlib.Core.List.{List, [], ◌∷◌, ◌++◌, append_assoc}
 use native.Mathlib.Omega.{arith}
 use lib.ListN.{length, get_or, take, length-append, get_or-append}
 use lib.Seq.{take-append-le, take-append-add, get_or-append-add}
+use Rattle.std.specs.declared.ops.Range.{Range}
 use Rattle.laws.specs.Lists.{each}
 use Rattle.laws.proofs.ListLaws.{each_append}
 use Rattle.mesh.specs.Model.{Model, Raw, cells_of}
@@ -15,7 +16,6 @@ use Rattle.mesh.specs.declared.CellTally.{CellTally}
 use Rattle.mesh.proofs.CellTallies.{total_append}
 use Rattle.faces.specs.Spans.{rings_in, SpanIn, CellFound}
 use Rattle.faces.specs.declared.Place.{Place}
-use Rattle.faces.specs.declared.Span.{Span}
 use Rattle.faces.proofs.Rings.{span_within, few_words}
 
 -- the face sought is face `face` of the cells that are left, and so many ring words stand before these
@@ -89,9 +89,9 @@ module _ (m : Model) (f : ℕ) (p : Place) (c : CellFound m f p) where
   found_face : f < length (rings_in m)
   found_face = omega (arith, c.face, c.within, ap length rings_are, length-append before (here ++ behind), length-append here behind)
 
-  module _ (s : Span) (q : SpanIn here p.face s) where
-    pub found_span : (r : Span) → r.start ≡ p.start + s.start → r.len ≡ s.len → SpanIn (rings_in m) f r
-    found_span r a b = record { start = omega (arith, a, q.start, found_start); len = b ∙ q.len ∙ ap length (sym found_ring) }
+  module _ (s : Range ℕ) (q : SpanIn here p.face s) where
+    pub found_span : (r : Range ℕ) → r.start ≡ p.start + s.start → r.end ≡ p.start + s.end → SpanIn (rings_in m) f r
+    found_span r a b = record { start = omega (arith, a, q.start, found_start); end = omega (arith, a, b, q.end, ap length found_ring) }
 
-    pub found_fits : (faces words : ℕ) → Tallied m faces words → p.start + s.start < 4294967296
-    found_fits faces words t = omega (arith, q.start, found_start, span_within (rings_in m) f found_face, few_words m faces words t)
+    pub found_fits : (faces words : ℕ) → Tallied m faces words → p.start + s.end < 4294967296
+    found_fits faces words t = omega (arith, q.start, q.end, ap length found_ring, found_start, span_within (rings_in m) f found_face, few_words m faces words t)

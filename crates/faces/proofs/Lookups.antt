@@ -1,5 +1,5 @@
 -- What the ring lookup answers: its refusals in order, and the part.
-use Prim.Native.Nat.{ℕ, ◌+◌, ◌-◌, ◌≤◌, ◌<◌}
+use Prim.Native.Nat.{ℕ, ◌-◌, ◌≤◌, ◌<◌}
 use mathlib.Core.Path.{◌≡◌, refl, sym, ap, ap₂, ◌∙◌, subst}
 use mathlib.Core.Logic.{◌⊎◌, inl, inr, ◌≢◌}
 use mathlib.Core.Bool.{Bool, true, false, not, ◌||◌}
@@ -7,7 +7,8 @@ use mathlib.Core.List.{List, [], ◌∷◌, ◌++◌}
 use native.Mathlib.Omega.{arith}
 use borrow.Author.Tests.{leb-false, le-leb, lt-leb, eqb-true, eqb-false, eq-eqb, ne_eqb, not-false}
 use lib.Dec.{eqb}
-use lib.ListN.{length, take, drop}
+use lib.ListN.{length, get_or, take, drop}
+use Rattle.std.specs.declared.ops.Range.{Range}
 use Rattle.std.specs.Prelude.{Result, Ok, Err}
 use Rattle.laws.specs.Refusals.{refusal, answer}
 use Rattle.std.proofs.lemmas.Bool.{cases_Bool, or_parts}
@@ -26,7 +27,6 @@ use Rattle.mesh.specs.Steps.{ring_total, Tallied}
 use Rattle.mesh.specs.declared.RingList.{RingList}
 use Rattle.mesh.proofs.Accepts.{accepted_clear}
 use Rattle.faces.specs.Spans.{rings_in, SpanIn}
-use Rattle.faces.specs.declared.Span.{Span}
 use Rattle.faces.proofs.Rings.{faces_are_lem, words_are, ring_at, start_at, span_within}
 
 -- a table behind a model's: the model's refusal first
@@ -148,21 +148,21 @@ module _ (m : Model) (raw welded : List ℕ) (f : ℕ) (x : Accepted) (judged : 
   pub part_face : f < length (rings_in (lent x.model))
   part_face = omega (arith, (looked m raw welded f none).face, ap (λ (v : Model). length (rings_in v)) same)
 
-  module _ (s : Span) (p : SpanIn (rings_in (lent x.model)) f s) where
+  module _ (s : Range ℕ) (p : SpanIn (rings_in (lent x.model)) f s) where
     spot : SpanIn (rings_in m) f s
     spot = subst (λ (v : Model). SpanIn (rings_in v) f s) same p
 
     -- its ring lies within both lists
-    pub part_within : (s.start + s.len ≤ length raw) × (s.start + s.len ≤ length welded)
+    pub part_within : (s.end ≤ length raw) × (s.end ≤ length welded)
     part_within =
         let l = looked m raw welded f none in
         let w = span_within (rings_in m) f l.face in
-        (omega (arith, w, spot.start, spot.len, l.raw_is_lem), omega (arith, w, spot.start, spot.len, l.welded_is_lem))
+        (omega (arith, w, spot.start, spot.end, l.raw_is_lem), omega (arith, w, spot.start, spot.end, l.welded_is_lem))
 
     -- and is the part of the list named
-    pub part_is_lem : (which : RingList) → take ((s.start + s.len) - s.start) (drop s.start (named which raw welded)) ≡ ring_part m raw welded which f
+    pub part_is_lem : (which : RingList) → take (s.end - s.start) (drop s.start (named which raw welded)) ≡ ring_part m raw welded which f
     unfolding ring_part
     part_is_lem which =
-        let n : (s.start + s.len) - s.start ≡ s.len = omega arith in
-        ap₂ (λ (k j : ℕ). take k (drop j (named which raw welded))) (n ∙ spot.len ∙ ap length (sym (ring_at m f))) (spot.start ∙ sym (start_at m f))
+        let n : s.end - s.start ≡ length (get_or (rings_in m) f []) = omega (arith, spot.end) in
+        ap₂ (λ (k j : ℕ). take k (drop j (named which raw welded))) (n ∙ ap length (sym (ring_at m f))) (spot.start ∙ sym (start_at m f))
         ∙ rw (eq-eqb (lookup_refusal m raw welded f) 0 none)

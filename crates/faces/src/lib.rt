@@ -12,21 +12,7 @@ ghost use Rattle.faces.specs.Spans.{rings_in, SpanIn, CellFound};
 
 use mesh::{Accepted, Cell, Kind, Model, PhedRings, RingList};
 use refusals::Refusal;
-
-// Where a ring lies among all ring words. No Range: C and the definition (`ring_part`) are told a start and a length.
-#[derive(Clone, Copy)]
-pub struct Span {
-    pub start: usize,
-    pub len: usize,
-}
-
-impl Span {
-    fn new(start: usize, len: usize) -> Span
-        ensures { (result.start ≡ start) × (result.len ≡ len) }
-    {
-        Span { start, len }
-    }
-}
+use std::ops::Range;
 
 // A cell, a face of it by its place among the cell's, and how many ring words stand before the cell's.
 #[derive(Clone, Copy)]
@@ -37,7 +23,7 @@ pub struct Place<'a> {
 }
 
 // Ring `face` of a PHED.
-fn phed_span(cell: &Cell, face: usize) -> Span
+fn phed_span(cell: &Cell, face: usize) -> Range<usize>
     requires { face < length (phed_rings cell.now.words.now) }
     ensures { SpanIn (phed_rings cell.now.words.now) face result }
 {
@@ -46,19 +32,19 @@ fn phed_span(cell: &Cell, face: usize) -> Span
     for _ in 0..face {
         start += rings.next().unwrap().len();
     }
-    Span::new(start, rings.next().unwrap().len())
+    start..start + rings.next().unwrap().len()
 }
 
 // Ring `face` of a cell, by its kind.
-pub fn cell_span(cell: &Cell, face: usize) -> Span
+pub fn cell_span(cell: &Cell, face: usize) -> Range<usize>
     requires { face < length (rings_of (cell_raw cell.now)) }
     ensures { SpanIn (rings_of (cell_raw cell.now)) face result }
 {
     match cell.kind {
-        Kind::Tet4 => Span::new(3 * face, 3),
-        Kind::Hex8 => Span::new(4 * face, 4),
-        Kind::Wedge6 if face < 2 => Span::new(3 * face, 3),
-        Kind::Wedge6 => Span::new(4 * face - 2, 4),
+        Kind::Tet4 => 3 * face..3 * face + 3,
+        Kind::Hex8 => 4 * face..4 * face + 4,
+        Kind::Wedge6 if face < 2 => 3 * face..3 * face + 3,
+        Kind::Wedge6 => 4 * face - 2..4 * face + 2,
         Kind::Phed => phed_span(cell, face),
     }
 }
@@ -86,13 +72,13 @@ pub fn find_cell<'a>(model: &Accepted<'a>, face: usize) -> Place<'a>
 }
 
 // Where a face's ring lies among all rings.
-pub fn find_ring(model: &Accepted, face: usize) -> Span
+pub fn find_ring(model: &Accepted, face: usize) -> Range<usize>
     requires { face < length (rings_in (lent model.now.model)) }
     ensures { SpanIn (rings_in (lent model.now.model)) face result × (result.start < 4294967296) }
 {
     let p = find_cell(model, face);
     let s = cell_span(&p.cell, p.face);
-    Span::new(p.start + s.start, s.len)
+    p.start + s.start..p.start + s.end
 }
 
 // The model as accepted, or why the lookup of a face's ring in two lists is refused.
@@ -132,9 +118,8 @@ pub fn ring_lookup<'a>(
         return &raw[..0];
     };
     let s = find_ring(&m, face);
-    let end = s.start + s.len;
     match which {
-        RingList::Raw => &raw[s.start..end],
-        RingList::Welded => &welded[s.start..end],
+        RingList::Raw => &raw[s],
+        RingList::Welded => &welded[s],
     }
 }

@@ -11,8 +11,7 @@ use Rattle.ascending.proofs.Adding.{get_or_in}
 use Rattle.std.specs.Cmp.Lexicographic.{pointwise}
 use Rattle.laws.specs.Lists.{eql, elem, sort}
 use Rattle.laws.proofs.Members.{elem-sort, member}
-use Rattle.laws.proofs.Tests.{eqb_comm}
-use Rattle.std.proofs.lemmas.Bool.{cases_Bool, or_parts}
+use Rattle.std.proofs.lemmas.Bool.{cases_Bool}
 use Rattle.laws.proofs.ListLaws.{eql_true}
 
 -- what `==` on slices says

@@ -7,6 +7,7 @@ use native.Mathlib.Omega.{arith}
 use lib.ListN.{length, get_or, take, drop}
 use lib.Seq.{sets, split_at, take_at, drop_at}
 use denote.Ref.{Bor}
+use Rattle.std.specs.declared.ops.Range.{Range}
 use Rattle.std.specs.Prelude.{Option, Some, None}
 use Rattle.std.specs.Option.{IsSome, option_map}
 use Rattle.std.specs.Iterator.{YieldsFirstBy, SkipsThenYields}
@@ -23,7 +24,6 @@ use Rattle.mesh.specs.declared.kind.Kind.{Kind}
 use Rattle.mesh.specs.declared.kind.Kind.TheVariants.{Tet4, Hex8, Wedge6, Phed}
 use Rattle.mesh.specs.declared.phed.PhedRings.{PhedRings}
 use Rattle.faces.specs.Spans.{SpanIn}
-use Rattle.faces.specs.declared.Span.{Span}
 use Rattle.faces.proofs.Rings.{span_within}
 
 -- ---- among the words
@@ -67,13 +67,13 @@ ring_part_lem rs f h =
     ∙ take_at r (flat rest) (length r) refl
 
 -- the same where they are put in front of a list
-module _ (rs : List (List ℕ)) (f : ℕ) (h : f < length rs) (s : Span) (p : SpanIn rs f s) where
-  pub span_end : s.start + s.len ≤ ring_total rs
-  span_end = omega (arith, p.start, p.len, span_within rs f h)
+module _ (rs : List (List ℕ)) (f : ℕ) (h : f < length rs) (s : Range ℕ) (p : SpanIn rs f s) where
+  pub span_end : s.end ≤ ring_total rs
+  span_end = omega (arith, p.start, p.end, span_within rs f h)
 
-  pub span_is : (l v : List ℕ) → ring_total rs ≤ length l → v ≡ sets l 0 (flat rs) → take ((s.start + s.len) - s.start) (drop s.start v) ≡ get_or rs f []
+  pub span_is : (l v : List ℕ) → ring_total rs ≤ length l → v ≡ sets l 0 (flat rs) → take (s.end - s.start) (drop s.start v) ≡ get_or rs f []
   span_is l v room a =
-      let n : (s.start + s.len) - s.start ≡ length (get_or rs f []) = omega (arith, p.len) in
+      let n : s.end - s.start ≡ length (get_or rs f []) = omega (arith, p.end) in
       let m : s.start ≡ 0 + ring_total (take f rs) = omega (arith, p.start) in
       ap₂ (λ (k j : ℕ). take k (drop j v)) n m
       ∙ ap (λ (x : List ℕ). take (length (get_or rs f [])) (drop (0 + ring_total (take f rs)) x)) a

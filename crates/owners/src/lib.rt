@@ -54,7 +54,7 @@ fn cell_ring<'a>(cell: &Cell<'a>, face: usize, room: &'a mut [u32; 24]) -> &'a [
         _ => {
             rings::put_cell(cell, room, 0);
             let s = faces::cell_span(cell, face);
-            &room[s.start..s.start + s.len]
+            &room[s]
         }
     }
 }
@@ -117,7 +117,7 @@ impl Holders<'_> {
         rings::put_cell(cell, &mut flat, 0);
         for j in 0..cell.tally().faces {
             let s = faces::cell_span(cell, j);
-            self.note(number, &flat[s.start..s.start + s.len]);
+            self.note(number, &flat[s]);
         }
     }
 

@@ -1,4 +1,4 @@
-use Prim.Native.Nat.{ℕ}
+use Prim.Native.Nat.{ℕ, ◌+◌}
 use mathlib.Core.Path.{◌≡◌, ap, ◌∙◌}
 use mathlib.Core.List.{[]}
 use native.Mathlib.Omega.{arith}
@@ -35,6 +35,13 @@ unwrap-requires-2 c =
     let l = c.loop in
     item_left (λ r. r.now) phed_rest _ l.rings c.next-2.new.self (phed_rings c.args.cell.now.words.now) l.counter c.next-2.ensures.steps l.invariant.0 (omega arith)
 
+pub overflow_add-result : goal.overflow_add-result
+overflow_add-result c =
+    let rs = phed_rings c.args.cell.now.words.now in
+    let l = c.loop in
+    let p = item_next (λ r. r.now) phed_rest _ _ l.rings c.next-2.new.self rs l.counter [] c.unwrap-2.ensures c.next-2.ensures.steps l.invariant.0 (omega arith) in
+    omega (arith, ap length p.0, span_within rs l.counter (omega arith), phed_few c.args.cell.now.words.now, l.invariant.1)
+
 pub returns : goal.returns
 returns c =
     let rs = phed_rings c.args.cell.now.words.now in
@@ -42,6 +49,6 @@ returns c =
     let p = item_next (λ r. r.now) phed_rest _ _ l.rings c.next-2.new.self rs l.counter [] c.unwrap-2.ensures c.next-2.ensures.steps l.invariant.0 (omega arith) in
     let e : l.counter ≡ c.args.face = omega arith in
     record {
-      start = c.new.ensures.0 ∙ l.invariant.1 ∙ ap (λ (k : ℕ). ring_total (take k rs)) e;
-      len = c.new.ensures.1 ∙ ap length p.0 ∙ ap (λ (k : ℕ). length (get_or rs k [])) e;
+      start = l.invariant.1 ∙ ap (λ (k : ℕ). ring_total (take k rs)) e;
+      end = ap (λ (n : ℕ). l.start + n) (ap length p.0 ∙ ap (λ (k : ℕ). length (get_or rs k [])) e);
     }

@@ -14,11 +14,6 @@ find_ring-s-requires c =
     let a = c.args in
     part_face (lent a.model.now) a.raw.now a.welded.now a.face c.in-Ok.m c.in-Ok.ensures.told c.in-Ok.ensures.same
 
-pub overflow_add-end : goal.overflow_add-end
-overflow_add-end c =
-    let a = c.args in
-    omega (arith, part_within (lent a.model.now) a.raw.now a.welded.now a.face c.in-Ok.m c.in-Ok.ensures.told c.in-Ok.ensures.same _ c.find_ring-s.ensures.0)
-
 pub slice_bounds-result-end-in-Raw : goal.slice_bounds-result-end-in-Raw
 slice_bounds-result-end-in-Raw c =
     let a = c.args in

@@ -30,11 +30,6 @@ put_cell-requires c =
     let x = c.args.cell.now in
     omega (arith, fixed_total (kind_number x.kind) x.words.now x.well (no_phed x.kind c.in_default.not-Phed))
 
-pub overflow_add-result : goal.overflow_add-result
-overflow_add-result c =
-    let x = c.args.cell.now in
-    omega (arith, fixed_total (kind_number x.kind) x.words.now x.well (no_phed x.kind c.in_default.not-Phed), span_end (rings_of (cell_raw x)) c.args.face c.requires _ c.cell_span-s.ensures)
-
 pub offset_bounds-room-s : goal.offset_bounds-room-s
 offset_bounds-room-s c =
     let x = c.args.cell.now in

@@ -13,11 +13,6 @@ use Rattle.owners.proofs.Loading.{span_end, span_is}
 use Rattle.owners.proofs.Passing.{holders_few, noting_next}
 use Rattle.owners.proofs.Holders.note_flat.Goals as goal
 
-pub overflow_add-s : goal.overflow_add-s
-overflow_add-s c =
-    let rs = rings_of (cell_raw c.args.cell.now) in
-    omega (arith, c.requires.0, span_end rs c.loop-j.j (omega (arith, c.tally-j-end.ensures.faces.0)) _ c.cell_span-s.ensures)
-
 pub offset_bounds-flat-s : goal.offset_bounds-flat-s
 offset_bounds-flat-s c =
     let rs = rings_of (cell_raw c.args.cell.now) in
