@@ -1,15 +1,12 @@
 -- The search for a ring of a cell that meets itself, and the marks of cells.
-use Prim.Native.Nat.{ℕ, zero, suc, ◌+◌, ◌<◌}
-use mathlib.Core.Path.{◌≡◌, refl, sym, ap, ◌∙◌}
-use mathlib.Core.Bool.{Bool, ◌||◌}
+use Prim.Native.Nat.{ℕ, ◌+◌, ◌<◌}
+use mathlib.Core.Path.{◌≡◌, sym, ap, ◌∙◌}
 use mathlib.Core.List.{List, map}
 use native.Mathlib.Nat.{zero-add}
-use native.Mathlib.Numerals.{add-one}
 use native.Mathlib.Omega.{arith}
 use lib.ListN.{set, take}
 use lib.Seq.{sets}
-use Rattle.std.specs.List.{list_any, range_with_len}
-use Rattle.laws.specs.Lists.{any, up_from}
+use Rattle.laws.specs.Lists.{up_from}
 use Rattle.laws.proofs.ListLaws.{length-up_from, get_or-up_from}
 use Rattle.welding.proofs.Through.{map_more}
 

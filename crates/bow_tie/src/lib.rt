@@ -165,7 +165,7 @@ fn first_and_last(n: usize, i: usize, j: usize) -> bool
     first & last
 }
 
-// Edges i, which is a - b, and j meet and are not the first and the last.
+// Edges i, which is a - b, and j meet and are not the first and the last. The ends of i go with it: they are found once for all j.
 #[tactic(auto, using(geometry::proofs::Listed::points_length, geometry::proofs::Listed::points_at), unfolding(crate::specs::BowTie::pair_meets))]
 fn pair_meets(ring: &Nodes, eps: f64, a: Point, b: Point, i: usize, j: usize) -> bool
     requires { (i < length ring.now.nodes.now) × (j < length ring.now.nodes.now) × (a ≡ point_at ring.now.coords.now (get_or ring.now.nodes.now i 0)) × (b ≡ following (points_in ring.now) i) }
@@ -187,7 +187,8 @@ fn later_meets(ring: &Nodes, eps: f64, i: usize) -> bool
     (i + 2..ring.nodes.len()).any(|j| pair_meets(ring, eps, a, b, i, j))
 }
 
-// Two edges of the ring that are not neighbours share a point.
+// Two edges of the ring that are not neighbours share a point. Coordinates and ring are two arguments, as in the Rust; they are one, `Nodes`,
+// within.
 #[tactic(auto, using(geometry::proofs::Listed::points_length), unfolding(crate::specs::BowTie::bow_tie_of))]
 pub fn face_self_intersects(coords: &[f64], ring: &[u32], tol: f64) -> bool
     requires { InNodes coords.now ring.now × (length ring.now ≤ 64) }

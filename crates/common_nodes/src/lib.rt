@@ -1,5 +1,5 @@
 // The common nodes of two faces: their number, whether they span an area, and their centre. Coordinates and tolerance are arguments of their
-// own: the layout's `Context`, which has both, lies above.
+// own: with the layout's `Context` the crate would rest on all that a layout is of, for two of its fields.
 #![tactic(auto)]
 
 ghost use Rattle.std.specs.Prelude.{◌≡◌, ◌<◌, ◌≤◌, length};

@@ -102,7 +102,7 @@ pub fn get<T: Stored<N>, const N: usize>(s: &[u8], at: usize) -> T
     T::from_bytes(bytes)
 }
 
-// The N bytes of a value from `at` on; all else as before.
+// The N bytes of a value from `at` on, as `get` reads them; all else as before.
 pub fn put<T: Stored<N>, const N: usize>(out: &mut [u8], at: usize, x: T)
     requires { at + N ≤ length out.old }
     ensures { out.new ≡ sets out.old at (T.bytes_of x) }

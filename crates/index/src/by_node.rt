@@ -79,6 +79,7 @@ impl<'a> Index<'a> {
     {
         self.span(self.at.offsets + v)
     }
+
     // Where they stand.
     pub fn list(&self, v: usize) -> Range<usize>
         requires { v < self.now.at.nodes }

@@ -51,7 +51,7 @@ impl Runs {
         ensures { Lowest self.now.count base.now self.now.from self.now.to d result }
     {
         let mut r = d;
-        // by index: it reads two lists at the same place
+        // by number: of both lists only the first `count` count, and the promise goes by the number
         for i in 0..self.count {
             r = r.min(head_of(base, self.from[i], self.to[i], d));
         }

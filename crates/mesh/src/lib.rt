@@ -92,7 +92,7 @@ fn ends_off(ends: &[u32], n: usize) -> bool
     at != n
 }
 
-// A PHED's rings, one by one; none where one is too long. That the words are few is asked here and of the two below, and not held by a
+// A PHED's rings, one by one; none where one is too long. That the words are few is asked here and of the three below, and not held by a
 // type: these words are judged only now.
 fn tally_runs(words: &[u32]) -> Option<CellTally>
     requires { length words.now < 4294967296 }

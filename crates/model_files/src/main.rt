@@ -136,7 +136,7 @@ fn damage_all(rt: &impl Print, s: &mut [u8], by: u8) -> io::Result<()> {
     Ok(())
 }
 
-// The file cut short behind each record, by how many there are: from none on, and to the whole file.
+// The file cut short behind each record. By number: a turn takes the first n records, which `chunks` does not give.
 fn cut_all(rt: &impl Print, s: &[u8]) -> io::Result<()> {
     for n in 0..s.len() / 32 + 1 {
         print!(rt; "{}", letter(trial(&s[..32 * n])))?;

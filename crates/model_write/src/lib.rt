@@ -119,7 +119,8 @@ fn put_nodes(out: &mut [u8], coords: &[f64])
     }
 }
 
-// A cell: C, then as many K as its further words need; the place after them.
+// A cell: C, then as many K as its further words need; the place after them. By the place in the whole output, of which the promise is a run
+// of stores.
 fn put_cell(out: &mut [u8], at: usize, cell: &Cell) -> usize
     requires { at + 32 * (1 + (length cell.now.words.now - 1) / 14) ≤ length out.old }
     ensures put { out.new ≡ sets out.old at (join (cell_records (cell_raw cell.now))) }
@@ -159,7 +160,7 @@ fn count_cells(model: &Accepted) -> usize
     sum
 }
 
-// All cells, from a place on.
+// All cells, from a place on, as each of them.
 fn put_cells(out: &mut [u8], at: usize, model: &Accepted)
     requires { at + 32 * length (each cell_records (cells_of (lent model.now.model))) ≤ length out.old }
     ensures { out.new ≡ sets out.old at (join (each cell_records (cells_of (lent model.now.model)))) }

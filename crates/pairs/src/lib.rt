@@ -82,8 +82,8 @@ pub fn prepare(work: &mut [u32], at: index::Places) -> Way
     less_work(&Index::new(work, at))
 }
 
-// The candidates of face lo, sought the way that is asked for, each way with its own function. Apart from `candidates_of`, so that an edit
-// of the match is refused by a promise.
+// The candidates of face lo, sought the way that is asked for, each way with its own function. Apart from `candidates_of`: with one
+// promise the match needs no answer, so an edit of it is refused by the promise, and not for a name in an answer.
 fn seek(
     work: &mut [u32],
     at: index::Places,

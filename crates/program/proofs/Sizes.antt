@@ -1,16 +1,16 @@
 -- What a file of at most 1,024 records decodes to, three coordinates, a cell or 14 words a record; and arrays of the sizes lent.
-use Prim.Native.Nat.{ℕ, zero, suc, ◌*◌, ◌/◌, ◌≤◌}
-use mathlib.Core.Path.{◌≡◌, refl, ap}
+use Prim.Native.Nat.{ℕ, ◌*◌, ◌/◌, ◌≤◌}
+use mathlib.Core.Path.{◌≡◌, refl}
 use mathlib.Core.Bool.{false}
 use mathlib.Core.List.{List, [], ◌∷◌}
 use native.Mathlib.Omega.{arith}
 use borrow.Author.Tests.{le-ltb}
 use lib.Dec.{ltb}
 use lib.Ieee.{Float}
-use lib.ListN.{length, drop, replicate, length-append, length-replicate}
+use lib.ListN.{length, replicate, length-append, length-replicate}
 use Rattle.laws.specs.Limits.{input_limit}
 use Rattle.model_file.specs.Records.{letter, coords_in, kinds_in, words_in, stage}
-use Rattle.model_file.specs.File.{chop, records, coords_of, kinds_of, words_of, ends_of, decode}
+use Rattle.model_file.specs.File.{records, coords_of, kinds_of, words_of, ends_of, decode}
 use Rattle.model_file.specs.Reading.{room_off}
 use Rattle.model_file.specs.Steps.{judge}
 use Rattle.model_file.specs.declared.Stage.{Stage}

@@ -39,7 +39,8 @@ pub enum Refusal {
 }
 
 impl Refusal {
-    // The number of the reason; 0 is none. A method and no From: it also promises that no number is 0, which answers told to C need.
+    // The number of the reason; 0 is none. A method: `e.number()` says at its many uses what `u8::from(e)` would not, and that none is 0 is a
+    // second promise.
     pub fn number(self) -> u8
         ensures value { result ≡ number self }
         ensures nonzero { 0 < result }

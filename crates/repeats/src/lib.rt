@@ -9,8 +9,8 @@ ghost use Rattle.mesh.specs.Rings.{nodes_in};
 ghost use Rattle.repeats.specs.Marks.{hit, mark, weld_in, marks_in, place_of, Sound, Numbered, Noting, Noted, Found};
 ghost use Rattle.repeats.specs.Repeats.{Ready, Listed};
 
-// Where the regions of the work lie: welded numbers and marks, one for each of the nodes; pairs; room to sort them. Layout, in a crate above,
-// has the same places among its own: with a Regions inside, the welded numbers, which other passes read too, would stand apart from its tables.
+// Where the regions of the work lie: welded numbers and marks, one for each of the nodes; pairs; room to sort them. Layout, in a crate of its own,
+// has the same places: with a Regions inside, the welded numbers, which other passes read too, would stand apart from its tables.
 #[derive(Clone, Copy)]
 pub struct Regions {
     pub nodes: usize,
@@ -20,7 +20,7 @@ pub struct Regions {
     pub spare: usize,
 }
 
-// The pair of n and q goes to o, the smaller first. By the place in the whole slice, as what it promises is told of it.
+// The pair of n and q goes to o, the smaller first. By the place in the whole slice, of which its callers say what it holds; so in `put_hit`.
 fn put_pair(work: &mut [u32], o: usize, n: u32, q: u32)
     requires { o + 2 ≤ length work.old }
     ensures { work.new ≡ sets work.old o (flat (pair_of n q ∷ [])) }

@@ -64,7 +64,7 @@ fn is_front(bytes: &[u8], theirs: &[u8]) -> bool {
 
 // ---- a model
 
-// The number in the two bytes from `at` on.
+// The number in the two bytes from `at` on; the head of an entry has two.
 fn two(head: &[u8; 4], at: usize) -> usize
     requires { at ≤ 2 }
     ensures { result < 65536 }

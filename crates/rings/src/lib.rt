@@ -1,5 +1,5 @@
 // The rings of cells, put one after the other into a lent list. Each function answers the place behind what it put, from which the next goes
-// on: a struct of the list and the place would have to say at each step that it still is the same list.
+// on: the tables of the check are put by one such step after the other in one slice, and each promise is a run of stores in it (`WordsPut`).
 #![tactic(auto)]
 
 ghost use Rattle.std.specs.Prelude.{All, ◌+◌, ◌≤◌, ◌<◌, length, get_or, map};

@@ -163,7 +163,7 @@ fn skip_runs(base: &[u32], runs: &mut merge::Runs, end: usize)
     ensures passed { Passed runs.old.count end base.now runs.old.from runs.new.from runs.old.to }
     ensures others { (runs.new.count ≡ runs.old.count) × (runs.new.to ≡ runs.old.to) }
 {
-    // by index: it reads and writes two lists at the same place
+    // by number: of both lists only the first `count` count, and the promise goes by the number
     for i in 0..runs.count {
         runs.from[i] = skip_run(base, runs.from[i], runs.to[i], end);
     }

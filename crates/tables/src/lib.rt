@@ -14,8 +14,7 @@ ghost use Rattle.tables.specs.Owners.{owners_from};
 
 use mesh::{Accepted, Cell, Kind, PhedRings};
 
-// n times the word v; answers the place behind them, as each function here does: what is put next goes on from it, and a struct of the
-// slice and the place would have to say at each step that it still is the same slice.
+// n times the word v; answers the place behind them, as each function here does, in the words of crate rings (`WordsPut`).
 fn put_copies(n: usize, v: u32, work: &mut [u32], at: usize) -> usize
     requires { at + n ≤ length work.old }
     ensures { WordsPut (replicate n v) work.old work.new at result }

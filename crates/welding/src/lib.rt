@@ -60,6 +60,7 @@ fn list_named(words: &[u32], work: &mut [u32], n: usize) -> usize
 }
 
 // The welded numbers of all n nodes stand in work from 2n on: the nodes that the words name are welded.
+// It asks of a model what it needs, and for no `Accepted`: `weld` judges no flags.
 pub fn weld_named(model: &Model, work: &mut [u32])
     requires { (3 * node_count model.now.coords.now ≤ length work.old) × (node_count model.now.coords.now < 2 ^ 32) × (coordinates_off model.now.coords.now ≡ false) × AllBelow (node_count model.now.coords.now) (nodes_in model.now.words.now) }
     ensures { (region (node_count model.now.coords.now + node_count model.now.coords.now) (node_count model.now.coords.now) work.new ≡ welded_over model.now.coords.now model.now.tolerance model.now.words.now) × But 0 (node_count model.now.coords.now + node_count model.now.coords.now + node_count model.now.coords.now) work.old work.new }
@@ -77,7 +78,7 @@ pub fn weld_named(model: &Model, work: &mut [u32])
     space.weld_in(work, 0, n, n + n, used);
 }
 
-// Each of the words through the map of welded numbers.
+// Each of the words through the map of welded numbers. By number: only the front of `out` is written, as far as there are words.
 pub fn put_welded(words: &[u32], welds: &[u32], out: &mut [u32])
     requires { (length words.now ≤ length out.old) × AllBelow (length welds.now) words.now }
     ensures { out.new ≡ sets out.old 0 (map (welded_by welds.now) words.now) }

@@ -1,8 +1,6 @@
-use Prim.Native.Nat.{ℕ, ◌+◌, ◌-◌, ◌≤◌}
-use mathlib.Core.Path.{◌≡◌, ap, ◌∙◌}
-use mathlib.Core.List.{List, ◌++◌}
+use Prim.Native.Nat.{◌+◌, ◌≤◌}
 use native.Mathlib.Omega.{arith}
-use lib.ListN.{length, take, drop, replicate, length-replicate, length-take, length-drop}
+use lib.ListN.{length, length-replicate}
 use Rattle.laws.proofs.Stores.{filled_part}
 use Rattle.tables.proofs.put_copies.Goals as goal
 
