@@ -6,3 +6,4 @@ pub mod Checks
 pub mod FaceRings
 pub mod Nodes
 pub mod Reports
+pub mod Status

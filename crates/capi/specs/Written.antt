@@ -1,12 +1,5 @@
 -- What an exported function answers, and what it writes for its answer.
-use Rattle.std.specs.Prelude.{ℕ, cond, ◌≡◌, eqb, Result, Ok, Err}
-use Rattle.refusals.specs.Told.{number}
-use Rattle.refusals.specs.declared.Refusal.{Refusal}
-
--- 0, or the refusal's number
-abbrev pub status : {A : Type 0} → Result A Refusal → ℕ
-status (Ok a) = 0
-status (Err e) = number e
+use Rattle.std.specs.Prelude.{ℕ, cond, ◌≡◌, eqb}
 
 -- v where n, the refusal, is 0; unchanged where it is not
 abbrev pub written : {A : Type 0} → ℕ → A → A → A

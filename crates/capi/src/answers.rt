@@ -2,7 +2,8 @@
 ghost use Rattle.std.specs.Prelude.{◌≡◌, ℕ};
 ghost use Rattle.laws.specs.Refusals.{answer};
 ghost use Rattle.refusals.specs.Told.{number, told};
-ghost use Rattle.capi.specs.Written.{Exported, status};
+ghost use Rattle.capi.specs.Written.{Exported};
+ghost use Rattle.capi.specs.Status.{status};
 
 use refusals::Refusal;
 

@@ -1,6 +1,5 @@
 -- The file: the bytes of a model, the model of bytes, and what is refused of bytes.
 use Rattle.std.specs.Prelude.{ℕ, zero, suc, ◌+◌, ◌-◌, ◌/◌, ◌%◌, Bool, true, false, not, ◌||◌, Option, List, [], ◌∷◌, ◌++◌, eqb, ltb, length, get_or, take, drop, Float}
-use Rattle.std.specs.Simd.{first_chunks}
 use Rattle.laws.specs.Limits.{record_limit}
 use Rattle.laws.specs.Lists.{each, last}
 use Rattle.mesh.specs.Model.{Model, Raw, model_of, cells_of}
@@ -39,7 +38,8 @@ encode m = each (λ r. r) (records_of m)
 
 -- bytes cut into n records
 abbrev pub chop : ℕ → List ℕ → List (List ℕ)
-chop n s = first_chunks 32 n s
+chop zero s = []
+chop (suc n) s = take 32 s ∷ chop n (drop 32 s)
 
 -- the records of a file
 abbrev pub records : List ℕ → List (List ℕ)

@@ -6,3 +6,4 @@ pub mod Reading
 pub mod Writing
 pub mod Held
 pub mod Steps
+pub mod Parts

@@ -1,5 +1,5 @@
 -- Reading a file: why it refuses, what it answers, and what the lent lists hold afterwards.
-use Rattle.std.specs.Prelude.{ℕ, ◌*◌, ◌≤◌, Bool, ◌||◌, List, [], ◌∷◌, ◌++◌, ◌≡◌, ltb, length, take, Float, Result}
+use Rattle.std.specs.Prelude.{ℕ, ◌*◌, Bool, ◌||◌, List, [], ◌∷◌, ◌++◌, ◌≡◌, ltb, length, take, Float, Result}
 use Rattle.laws.specs.Lists.{All}
 use Rattle.laws.specs.Refusals.{refusal, answer, filled}
 use Rattle.refusals.specs.Told.{told}
@@ -33,10 +33,6 @@ found_in m = found_of (node_count m.coords) (length m.kinds) (length m.words) m.
 abbrev pub model_in : Found → List Float → List ℕ → List ℕ → List ℕ → Model
 model_in f coords kinds ends words =
     model_of (take (3 * f.nodes) coords) (take f.cells kinds) (take f.cells ends) (take f.words words) f.tolerance f.checks.0 f.cap
-
--- lists of these lengths have room for what was found
-abbrev pub Within : Found → ℕ → ℕ → ℕ → ℕ → Type 0
-Within f coords kinds ends words = (3 * f.nodes ≤ coords) × (f.cells ≤ kinds) × (f.cells ≤ ends) × (f.words ≤ words)
 
 -- What each lent list holds after reading.
 pub record ReadMemory (s : List ℕ) (coords coords' : List Float) (kinds kinds' ends ends' words words' : List ℕ) : Type 0 where

@@ -65,7 +65,8 @@ pub struct Found {
 impl Found {
     ghost use Rattle.std.specs.Prelude.{◌≡◌, ◌↔◌, IsSome, IfSome, length};
     ghost use Rattle.mesh.specs.Lent.{lent};
-    ghost use Rattle.model_file.specs.Reading.{Within, model_in};
+    ghost use Rattle.model_file.specs.Reading.{model_in};
+    ghost use Rattle.model_file.specs.Parts.{Within};
 
     // The model that was found, in the filled parts of the lists; none where a list is shorter than what was found.
     pub fn model<'a>(

@@ -7,7 +7,8 @@ use mathlib.Core.List.{List, [], ◌∷◌, ◌++◌}
 use native.Mathlib.Nat.{zero-add}
 use native.Mathlib.Omega.{arith}
 use lib.Dec.{eqb, ltb}
-use lib.ListN.{length, get_or, drop}
+use lib.ListN.{length, get_or, take, drop}
+use Rattle.std.specs.Simd.{first_chunks}
 use lib.Seq.{sets, sets-eq}
 use lib.Ieee.{Float}
 use borrow.Author.Tests.{eqb-true, eqb-false, ltb-false, not-false}
@@ -53,6 +54,11 @@ pub record Whole (s : List ℕ) : Type 0 where
   pub some : length s ≢ 0
   pub whole : length s % 32 ≡ 0
   pub few : length s / 32 ≤ 131072
+
+-- the library cuts bytes into records as the definition does
+pub chopped : (n : ℕ) (s : List ℕ) → first_chunks 32 n s ≡ chop n s
+chopped zero s = refl
+chopped (suc n) s = ap (λ (rs : List (List ℕ)). take 32 s ∷ rs) (chopped n (drop 32 s))
 
 -- so many records
 pub length-chop : (n : ℕ) (s : List ℕ) → length (chop n s) ≡ n

@@ -21,7 +21,8 @@ use Rattle.std.proofs.lemmas.Bool.{cases_Bool}
 use Rattle.mesh.specs.Model.{Model}
 use Rattle.mesh.specs.Acceptance.{check_table, work_needed}
 use Rattle.model_file.specs.File.{records, file_table, decode, length_off}
-use Rattle.model_file.specs.Reading.{room_off, read_refusal, found_in, model_in, Within, Reading}
+use Rattle.model_file.specs.Reading.{room_off, read_refusal, found_in, model_in, Reading}
+use Rattle.model_file.specs.Parts.{Within}
 use Rattle.model_file.specs.Steps.{judge}
 use Rattle.model_file.specs.declared.Found.{Found}
 use Rattle.model_file.specs.declared.Stage.TheVariants.{Nodes}

@@ -17,7 +17,8 @@ use Rattle.findings.proofs.Kept.{record_64}
 use Rattle.records.specs.Read.{fields_in}
 use Rattle.records.proofs.Back.{fields_back}
 use Rattle.report.specs.Text.{line_of, total_line, conform, report_text}
-use Rattle.report_text.specs.Stored.{Wrote, fields_kept}
+use Rattle.report_text.specs.Stored.{fields_kept}
+use Rattle.report_text.specs.Wrote.{Wrote}
 use Rattle.report_text.specs.declared.Text.{Text}
 use Rattle.report_text.proofs.Texts.{followed}
 

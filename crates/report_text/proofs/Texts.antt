@@ -10,7 +10,8 @@ use Rattle.std.specs.Fmt.{decimal as printed}
 use Rattle.std.proofs.lemmas.Fmt.{decimal_from_prepends, length-decimal-le}
 use Rattle.laws.proofs.Stores.{sets_append}
 use Rattle.report.specs.Text.{digits_to}
-use Rattle.report_text.specs.Stored.{Stored, Wrote}
+use Rattle.report_text.specs.Stored.{Stored}
+use Rattle.report_text.specs.Wrote.{Wrote}
 use Rattle.report_text.specs.declared.Text.{Text}
 
 -- a text, and one more right behind it

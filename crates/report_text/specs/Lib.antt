@@ -1,2 +1,3 @@
 -- Text stored into a slice, and the records kept.
 pub mod Stored
+pub mod Wrote

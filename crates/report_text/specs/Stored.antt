@@ -1,21 +1,13 @@
 -- Text stored into a slice from a place on, and the records that a report tells of.
-use Rattle.std.specs.Prelude.{ℕ, ◌+◌, ◌*◌, ◌≤◌, ◌≡◌, List, map, length}
+use Rattle.std.specs.Prelude.{ℕ, ◌+◌, ◌*◌, ◌≡◌, List, map, length}
 use Rattle.std.proofs.lemmas.List.Edits.{sets}
 use Rattle.laws.specs.Lists.{up_from}
 use Rattle.findings.specs.Records.{Fields}
 use Rattle.records.specs.Read.{fields_in}
-use Rattle.report_text.specs.declared.Text.{Text}
 
 -- the slice `before`, with a text from `at` on and all else as it was, is `after`; the text ends at `end`
 abbrev pub Stored : List ℕ → ℕ → List ℕ → List ℕ → ℕ → Type 0
 Stored before at text after end = (after ≡ sets before at text) × (end ≡ at + length text)
-
--- a text of at most `most` bytes comes behind what is written in t, which becomes t'
-pub record Wrote (most : ℕ) (text : List ℕ) (t t' : Text) : Type 0 where
-  pub same_reference : t'.out.ghost_name ≡ t.out.ghost_name
-  pub stored : Stored t.out.now t.at text t'.out.now t'.at
-  pub few : t'.at ≤ t.at + most
-  pub room : length t'.out.now ≡ length t.out.now
 
 -- the fields of the first k records of 64 bytes
 abbrev pub fields_kept : List ℕ → ℕ → List Fields

@@ -6,7 +6,8 @@ ghost use Rattle.laws.specs.Lists.{each};
 ghost use Rattle.refusals.specs.Told.{number};
 ghost use Rattle.records.specs.Keeping.{told};
 ghost use Rattle.report.specs.Text.{decimal, spaced, line_of, total_line, refused_line, conform, report_text};
-ghost use Rattle.report_text.specs.Stored.{Stored, Wrote, fields_kept};
+ghost use Rattle.report_text.specs.Stored.{Stored, fields_kept};
+ghost use Rattle.report_text.specs.Wrote.{Wrote};
 
 use records::Record;
 use refusals::Refusal;

@@ -11,7 +11,8 @@ use Rattle.records.specs.Read.{fields_in}
 use Rattle.records.proofs.Back.{fields_chunk}
 use Rattle.records.specs.Keeping.{told}
 use Rattle.report.specs.Text.{line_of}
-use Rattle.report_text.specs.Stored.{Wrote, fields_kept}
+use Rattle.report_text.specs.Stored.{fields_kept}
+use Rattle.report_text.specs.Wrote.{Wrote}
 use Rattle.report_text.proofs.Reports.{line_next}
 use Rattle.report_text.proofs.Text.put_lines.Goals as goal
 

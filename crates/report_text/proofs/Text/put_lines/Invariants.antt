@@ -2,7 +2,8 @@
 use Prim.Native.Nat.{◌*◌}
 use Rattle.laws.specs.Lists.{each}
 use Rattle.report.specs.Text.{line_of}
-use Rattle.report_text.specs.Stored.{Wrote, fields_kept}
+use Rattle.report_text.specs.Stored.{fields_kept}
+use Rattle.report_text.specs.Wrote.{Wrote}
 use Rattle.report_text.proofs.Text.put_lines.Given as goal
 
 abbrev pub invariant-loop-bytes : goal.invariant-loop-bytes

@@ -3,7 +3,7 @@ use Prim.Native.Nat.{ℕ}
 use mathlib.Core.Path.{subst}
 use native.Mathlib.Omega.{arith}
 use Rattle.report.specs.Text.{refused_line}
-use Rattle.report_text.specs.Stored.{Wrote}
+use Rattle.report_text.specs.Wrote.{Wrote}
 use Rattle.report_text.proofs.Texts.{followed}
 use Rattle.report_text.proofs.Text.put_refused.Goals as goal
 
