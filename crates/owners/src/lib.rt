@@ -21,7 +21,10 @@ fn sorted<'a>(ring: &[u32], room: &'a mut [u32; 64]) -> &'a [u32]
     ensures { result.now ≡ sort leb ring.now }
 {
     let part = &mut room[..ring.len()];
-    part.copy_from_slice(ring);
+    // one by one: `copy_from_slice` makes the library need `memmove` from outside
+    for (i, word) in ring.iter().enumerate() {
+        part[i] = *word;
+    }
     part.sort_unstable();
     part
 }
