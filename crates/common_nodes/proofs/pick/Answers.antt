@@ -12,13 +12,13 @@ use Rattle.common_nodes.proofs.pick.Goals.{then-contains, else-contains}
 use Rattle.common_nodes.proofs.pick.Goals as goal
 
 pub loop-v-init : goal.loop-v-init
-loop-v-init c = c.new-own.ensures ∙ sym (picked_start c.args.others.now)
+loop-v-init c = c.requires.1 ∙ sym (picked_start c.args.others.now)
 
 pub push-requires : goal.push-requires
 push-requires c =
     let a = c.args in
     let l = c.loop-v in
-    (omega arith, room a.words.now a.others.now l.own.items l.v-index _ l.invariant c.loop-v-test.true refl c.requires)
+    (omega arith, room a.words.now a.others.now l.own.items l.v-index _ l.invariant c.loop-v-test.true refl c.requires.0)
 
 pub loop-v-preserved : goal.loop-v-preserved
 loop-v-preserved c =
