@@ -21,10 +21,7 @@ fn sorted<'a>(ring: &[u32], room: &'a mut [u32; 64]) -> &'a [u32]
     ensures { result.now ≡ sort leb ring.now }
 {
     let part = &mut room[..ring.len()];
-    // one by one: `copy_from_slice` makes the library need `memmove` from outside
-    for (i, word) in ring.iter().enumerate() {
-        part[i] = *word;
-    }
+    sorting::copy_words(ring, part);
     part.sort_unstable();
     part
 }

@@ -102,7 +102,7 @@ pub fn weld(model: &Model, map: &mut [u32], scratch: &mut [u32]) -> Result<(), R
         return Err(Refusal::Room);
     }
     weld_named(model, scratch);
-    map[..n].copy_from_slice(&scratch[n + n..n + n + n]);
+    sorting::copy_words(&scratch[n + n..n + n + n], &mut map[..n]);
     scratch[..3 * n].fill(0);
     Ok(())
 }

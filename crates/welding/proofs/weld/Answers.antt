@@ -58,7 +58,7 @@ returns c =
     let n = c.node_count-n.ensures in
     filling m c.args.map.now c.args.scratch.now _ W.new.work _ z.0 room words W.auto.work
     W.ensures
-    (ap (λ (l : List ℕ). l ++ drop c.node_count-n.result c.args.map.now) (c.copy_from_slice.ensures.after ∙ slice_region W.new.work (c.node_count-n.result + c.node_count-n.result) c.node_count-n.result)
+    (ap (λ (l : List ℕ). l ++ drop c.node_count-n.result c.args.map.now) (c.copy_words.ensures ∙ slice_region W.new.work (c.node_count-n.result + c.node_count-n.result) c.node_count-n.result)
     ∙ ap (λ (k : ℕ). region (k + k) k W.new.work ++ drop k c.args.map.now) n)
     (subst (λ (k : ℕ). c.fill.new.self ++ drop (3 * c.node_count-n.result) W.new.work ≡ sets W.new.work 0 (replicate (3 * k) 0)) n
     (filled_front W.new.work (3 * c.node_count-n.result) 0 (omega arith) (c.fill.ensures.after (λ y e. e))))
