@@ -91,7 +91,7 @@ pub extern "C" fn lenoshale_ring_lookup(
     match faces::judge_lookup(&model, raw, welded, face) {
         Err(e) => answers::refused(e),
         Ok(m) => {
-            let s = faces::find_ring(&m, face);
+            let s = faces::find_ring(m.cells(), face);
             *start = s.start as u64;
             *size = (s.end - s.start) as u64;
             0

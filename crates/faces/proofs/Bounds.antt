@@ -70,3 +70,7 @@ fixed_total k ws w z = by_kind (λ rs. ring_total rs ≤ 24) k ws w (omega arith
 -- a cell has at most so many rings
 pub rings_few : (k : ℕ) (ws : List ℕ) → WellCell (cell_with k ws) → length (rings_of (cell_with k ws)) ≤ 6 + length ws
 rings_few k ws w = by_kind (λ rs. length rs ≤ 6 + length ws) k ws w (omega arith) (omega arith) (omega arith) (λ e. omega (arith, phed_few ws))
+
+-- and its rings so many words
+pub rings_total : (k : ℕ) (ws : List ℕ) → WellCell (cell_with k ws) → ring_total (rings_of (cell_with k ws)) ≤ 24 + length ws
+rings_total k ws w = by_kind (λ rs. ring_total rs ≤ 24 + length ws) k ws w (omega arith) (omega arith) (omega arith) (λ e. omega (arith, phed_few ws))

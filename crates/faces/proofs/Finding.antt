@@ -1,6 +1,6 @@
 -- A face sought among the cells.
-use Prim.Native.Nat.{ℕ, ◌+◌, ◌-◌, ◌≤◌, ◌<◌}
-use mathlib.Core.Path.{◌≡◌, sym, ap, ◌∙◌}
+use Prim.Native.Nat.{ℕ, ◌+◌, ◌-◌, ◌*◌, ◌≤◌, ◌<◌}
+use mathlib.Core.Path.{◌≡◌, refl, sym, ap, ◌∙◌}
 use mathlib.Core.List.{List, [], ◌∷◌, ◌++◌, append_assoc}
 use native.Mathlib.Omega.{arith}
 use lib.ListN.{length, get_or, take, length-append, get_or-append}
@@ -8,43 +8,47 @@ use lib.Seq.{take-append-le, take-append-add, get_or-append-add}
 use Rattle.std.specs.declared.ops.Range.{Range}
 use Rattle.laws.specs.Lists.{each}
 use Rattle.laws.proofs.ListLaws.{each_append}
-use Rattle.mesh.specs.Model.{Model, Raw, cells_of}
+use Rattle.mesh.specs.Model.{Raw}
 use Rattle.mesh.specs.Rings.{rings_of}
-use Rattle.mesh.specs.CellsRest.{cell_raw}
-use Rattle.mesh.specs.Steps.{ring_total, Tallied}
+use Rattle.mesh.specs.Kinds.{kind_number}
+use Rattle.mesh.specs.CellsRest.{cell_raw, cells_rest}
+use Rattle.mesh.specs.Steps.{ring_total}
 use Rattle.mesh.specs.declared.CellTally.{CellTally}
-use Rattle.mesh.proofs.CellTallies.{total_append}
-use Rattle.faces.specs.Spans.{rings_in, SpanIn, CellFound}
+use Rattle.mesh.specs.declared.accepted.Cell.{Cell}
+use Rattle.mesh.specs.declared.accepted.Cells.{Cells}
+use Rattle.mesh.proofs.CellTallies.{words_in, total_append}
+use Rattle.faces.specs.Spans.{rings_left, SpanIn, CellFound}
 use Rattle.faces.specs.declared.Place.{Place}
-use Rattle.faces.proofs.Rings.{span_within, few_words}
+use Rattle.faces.proofs.Bounds.{rings_total}
+use Rattle.faces.proofs.Rings.{span_within}
+use Rattle.faces.proofs.Standing.{stands}
 
--- the face sought is face `face` of the cells that are left, and so many ring words stand before these
-pub record Finding (m : Model) (f : ℕ) (rest : List Raw) (face start : ℕ) : Type 0 where
+-- the face sought is face `face` of the cells that are left, before which stand so many cells, words and ring words
+pub record Finding (cs : List Raw) (f : ℕ) (rest : List Raw) (number from face start : ℕ) : Type 0 where
   pub seen : List Raw
-  pub parts : seen ++ rest ≡ cells_of m
+  pub parts : seen ++ rest ≡ cs
   pub face_left : length (each rings_of seen) + face ≡ f
   pub passed : start ≡ ring_total (each rings_of seen)
+  pub counted : number ≡ length seen
+  pub behind_words : from ≡ length (words_in seen)
+  pub small : start ≤ 24 * number + from
 
-module _ {m : Model} {f face start : ℕ} {rest later : List Raw} (p : Finding m f rest face start) (c : Raw) (is : rest ≡ c ∷ later) where
-  there : p.seen ++ c ∷ later ≡ cells_of m
+module _ {cs : List Raw} {f number from face start : ℕ} {rest later : List Raw} (p : Finding cs f rest number from face start) (c : Raw) (is : rest ≡ c ∷ later) where
+  there : p.seen ++ c ∷ later ≡ cs
   there = ap (λ (l : List Raw). p.seen ++ l) (sym is) ∙ p.parts
 
-  -- the ring words up to the next cell's are some of all
-  pub words_most : start + ring_total (rings_of c) ≤ ring_total (rings_in m)
-  words_most =
-      let a = each rings_of p.seen in
-      let b = each rings_of later in
-      omega (
-        arith,
-        p.passed,
-        ap (λ (l : List Raw). ring_total (each rings_of l)) (sym there) ∙ ap ring_total (each_append rings_of p.seen (c ∷ later)),
-        total_append a (rings_of c ++ b),
-        total_append (rings_of c) b,
+  -- the cell and its words are some of all
+  pub walk_bounds : (number < length cs) × (from + length c.words ≤ length (words_in cs))
+  walk_bounds =
+      let w = ap length (ap words_in (sym there) ∙ each_append (λ (x : Raw). x.words) p.seen (c ∷ later)) in (
+        omega (arith, p.counted, ap length there, length-append p.seen (c ∷ later)),
+        omega (arith, p.behind_words, w, length-append (words_in p.seen) (words_in (c ∷ later)), length-append c.words (words_in later)),
       )
 
   -- the cell is passed
-  pub finding_next : (t : CellTally) → t.faces ≡ length (rings_of c) → t.words ≡ ring_total (rings_of c) → t.faces ≤ face → Finding m f later (face - t.faces) (start + t.words)
-  finding_next t a b h =
+  pub finding_next : (next : ℕ) → next ≡ number + 1 → (t : CellTally) → t.faces ≡ length (rings_of c) → t.words ≡ ring_total (rings_of c) → t.words ≤ 24 + length c.words → t.faces ≤ face
+      → Finding cs f later next (from + length c.words) (face - t.faces) (start + t.words)
+  finding_next next q t a b d h =
       let e = each_append rings_of p.seen (c ∷ []) in
       let n = length-append (rings_of c) [] in
       record {
@@ -52,11 +56,43 @@ module _ {m : Model} {f face start : ℕ} {rest later : List Raw} (p : Finding m
         parts = append_assoc p.seen (c ∷ []) later ∙ there;
         face_left = omega (arith, ap length e, length-append (each rings_of p.seen) (rings_of c ++ []), n, p.face_left, a);
         passed = omega (arith, ap ring_total e, total_append (each rings_of p.seen) (rings_of c ++ []), total_append (rings_of c) [], p.passed, b);
+        counted = omega (arith, q, p.counted, length-append p.seen (c ∷ []));
+        behind_words =
+            omega (
+              arith,
+              p.behind_words,
+              ap length (each_append (λ (x : Raw). x.words) p.seen (c ∷ [])),
+              length-append (words_in p.seen) (words_in (c ∷ [])),
+              length-append c.words [],
+            );
+        small = omega (arith, q, p.small, d);
       }
+
+-- the cell holds it
+pub finding_here : {f number from face start : ℕ} {rest later : List Raw} (cs : Cells) → Finding (cells_rest cs) f rest number from face start → (n : ℕ) → n ≡ number → (c : Cell) → rest ≡ cell_raw c ∷ later → face < length (rings_of (cell_raw c))
+    → CellFound cs f (record { number = n; from = from; cell = c; face = face; start = start })
+finding_here {later = later} cs p n q c is h =
+    let l = cs.left in
+    let parts = there p (cell_raw c) is in
+    let s = stands l.at l.kinds.now l.ends.now l.words.now p.seen later (cell_raw c) l.paired l.ordered parts in
+    record {
+      before = p.seen;
+      behind = later;
+      parts = parts;
+      face = p.face_left;
+      within = h;
+      start = p.passed;
+      number = q ∙ p.counted;
+      from = p.behind_words;
+      cell = omega (arith, s.counted, q, p.counted);
+      end = omega (arith, s.within, p.behind_words);
+      is = rw (q, p.counted, p.behind_words) s.is;
+      small = omega (arith, q, p.small);
+    }
 
 -- ---- the cell found
 
-module _ (m : Model) (f : ℕ) (p : Place) (c : CellFound m f p) where
+module _ (cs : Cells) (f : ℕ) (p : Place) (c : CellFound cs f p) where
   abbrev here : List (List ℕ)
   here = rings_of (cell_raw p.cell)
 
@@ -66,11 +102,11 @@ module _ (m : Model) (f : ℕ) (p : Place) (c : CellFound m f p) where
   abbrev behind : List (List ℕ)
   behind = each rings_of c.behind
 
-  rings_are : rings_in m ≡ before ++ (here ++ behind)
+  rings_are : rings_left cs ≡ before ++ (here ++ behind)
   rings_are = ap (each rings_of) (sym c.parts) ∙ each_append rings_of c.before (cell_raw p.cell ∷ c.behind)
 
   -- the face's ring is its ring in the cell
-  pub found_ring : get_or (rings_in m) f [] ≡ get_or here p.face []
+  pub found_ring : get_or (rings_left cs) f [] ≡ get_or here p.face []
   found_ring =
       ap (λ (l : List (List ℕ)). get_or l f []) rings_are
       ∙ ap (λ (j : ℕ). get_or (before ++ (here ++ behind)) j []) (sym c.face)
@@ -78,7 +114,7 @@ module _ (m : Model) (f : ℕ) (p : Place) (c : CellFound m f p) where
       ∙ get_or-append here behind [] p.face c.within
 
   -- and it starts behind the ring words before the cell
-  found_start : ring_total (take f (rings_in m)) ≡ p.start + ring_total (take p.face here)
+  found_start : ring_total (take f (rings_left cs)) ≡ p.start + ring_total (take p.face here)
   found_start =
       ap (λ (l : List (List ℕ)). ring_total (take f l)) rings_are
       ∙ ap (λ (j : ℕ). ring_total (take j (before ++ (here ++ behind)))) (sym c.face)
@@ -86,12 +122,16 @@ module _ (m : Model) (f : ℕ) (p : Place) (c : CellFound m f p) where
       ∙ total_append before (take p.face (here ++ behind))
       ∙ omega (arith, c.start, ap ring_total (take-append-le p.face here behind (omega (arith, c.within))))
 
-  found_face : f < length (rings_in m)
-  found_face = omega (arith, c.face, c.within, ap length rings_are, length-append before (here ++ behind), length-append here behind)
+  -- the ring words up to the cell's end are few
+  words_few : p.start + ring_total here < 4294967296
+  words_few =
+      let passed : Finding (cells_rest cs) f (cell_raw p.cell ∷ c.behind) p.number p.from p.face p.start = record { seen = c.before; parts = c.parts; face_left = c.face; passed = c.start; counted = c.number; behind_words = c.from; small = c.small } in
+      let w = walk_bounds passed (cell_raw p.cell) refl in
+      omega (arith, w.0, w.1, c.small, cs.few, cs.small, rings_total (kind_number p.cell.kind) p.cell.words.now p.cell.well)
 
   module _ (s : Range ℕ) (q : SpanIn here p.face s) where
-    pub found_span : (r : Range ℕ) → r.start ≡ p.start + s.start → r.end ≡ p.start + s.end → SpanIn (rings_in m) f r
+    pub found_span : (r : Range ℕ) → r.start ≡ p.start + s.start → r.end ≡ p.start + s.end → SpanIn (rings_left cs) f r
     found_span r a b = record { start = omega (arith, a, q.start, found_start); end = omega (arith, a, b, q.end, ap length found_ring) }
 
-    pub found_fits : (faces words : ℕ) → Tallied m faces words → p.start + s.end < 4294967296
-    found_fits faces words t = omega (arith, q.start, q.end, ap length found_ring, found_start, span_within (rings_in m) f found_face, few_words m faces words t)
+    pub found_fits : (s.start ≤ s.end) × (p.start + s.end < 4294967296)
+    found_fits = (omega (arith, q.end), omega (arith, q.start, q.end, span_within here p.face c.within, words_few))

@@ -1,7 +1,8 @@
 -- Laws of where a face's ring lies.
 pub mod Rings
-pub mod Taking
+pub mod Bounds
+pub mod Polyhedra
 pub mod Spanning
+pub mod Standing
 pub mod Finding
 pub mod Lookups
-pub mod Bounds

@@ -53,8 +53,8 @@ fn cell_ring<'a>(cell: &Cell<'a>, face: usize, room: &'a mut [u32; 24]) -> &'a [
         Kind::Phed => PhedRings::new(cell.words).nth(face).unwrap(),
         _ => {
             rings::put_cell(cell, room, 0);
-            let s = faces::cell_span(cell, face);
-            &room[s]
+            let s = faces::cell_span(cell.kind, cell.words, face);
+            &room[s.start..s.end]
         }
     }
 }
@@ -64,7 +64,7 @@ fn key_of<'a>(model: &Accepted, face: usize, room: &'a mut [u32; 64]) -> &'a [u3
     requires { face < length (rings_in (lent model.now.model)) }
     ensures { (result.now ≡ sort leb (get_or (rings_in (lent model.now.model)) face [])) × (length result.now ≤ 64) }
 {
-    let p = faces::find_cell(model, face);
+    let p = faces::find_cell(model.cells(), face);
     let mut flat = [0; 24];
     sorted(cell_ring(&p.cell, p.face, &mut flat), room)
 }
@@ -116,8 +116,8 @@ impl Holders<'_> {
         let mut flat = [0; 24];
         rings::put_cell(cell, &mut flat, 0);
         for j in 0..cell.tally().faces {
-            let s = faces::cell_span(cell, j);
-            self.note(number, &flat[s]);
+            let s = faces::cell_span(cell.kind, cell.words, j);
+            self.note(number, &flat[s.start..s.end]);
         }
     }
 

@@ -1,16 +1,14 @@
 use native.Mathlib.Omega.{arith}
-use Rattle.mesh.specs.Lent.{lent}
 use Rattle.mesh.specs.CellsRest.{cell_raw}
-use Rattle.faces.proofs.Rings.{few_words}
-use Rattle.faces.proofs.Finding.{words_most, finding_next}
+use Rattle.faces.proofs.Finding.{finding_next, finding_here}
 use Rattle.faces.proofs.find_cell.Goals as goal
 
-pub overflow_add-start : goal.overflow_add-start
-overflow_add-start c =
-    let m = c.args.model.now in
-    omega (arith, words_most c.loop-cell.invariant (cell_raw c.in-Some.cell) c.in-Some.ensures.steps, c.tally-t.ensures.words.0, few_words (lent m.model) m.faces m.ring_words m.tallied)
+pub returns-then-left-t : goal.returns-then-left-t
+returns-then-left-t c =
+    finding_here c.args.cells c.loop-number.invariant c.in-Some.number c.in-Some.ensures.steps.1 c.in-Some.cell c.in-Some.ensures.steps.0 (omega (arith, c.tally-t.ensures.faces.0))
 
-pub loop-cell-preserved : goal.loop-cell-preserved
-loop-cell-preserved c =
+pub loop-number-preserved : goal.loop-number-preserved
+loop-number-preserved c =
     let t = c.tally-t in
-    finding_next c.loop-cell.invariant (cell_raw c.in-Some.cell) c.in-Some.ensures.steps t.result t.ensures.faces.0 t.ensures.words.0 (omega arith)
+    let s = c.in-Some.ensures.steps in
+    finding_next c.loop-number.invariant (cell_raw c.in-Some.cell) s.0 _ s.2 t.result t.ensures.faces.0 t.ensures.words.0 t.ensures.words.1 (omega arith)

@@ -1,7 +1,6 @@
-use Rattle.mesh.specs.Lent.{lent}
 use Rattle.mesh.specs.CellsRest.{cells_rest}
 use Rattle.faces.proofs.Finding.{Finding}
 use Rattle.faces.proofs.find_cell.Given as goal
 
-abbrev pub invariant-loop-cell : goal.invariant-loop-cell
-invariant-loop-cell l = Finding (lent l.model.model) l.face (cells_rest l.cell-iterator) l.left l.start
+abbrev pub invariant-loop-number : goal.invariant-loop-number
+invariant-loop-number l = Finding (cells_rest l.cells) l.face (cells_rest l.number-iterator.iter) l.number-iterator.count l.from l.left l.start

@@ -1,54 +1,38 @@
-use Prim.Native.Nat.{ℕ, ◌+◌}
-use mathlib.Core.Path.{◌≡◌, ap, ◌∙◌}
-use mathlib.Core.List.{[]}
+use mathlib.Core.Path.{refl}
 use native.Mathlib.Omega.{arith}
-use lib.ListN.{length, get_or, take}
-use Rattle.mesh.specs.Rings.{phed_rings}
-use Rattle.mesh.specs.Steps.{ring_total}
-use Rattle.mesh.specs.PhedRest.{phed_rest}
-use Rattle.mesh.proofs.RunTallies.{phed_few}
-use Rattle.faces.proofs.Rings.{total_more, span_within}
-use Rattle.faces.proofs.Taking.{item_left, item_next}
+use Rattle.faces.proofs.Polyhedra.{running_start, run_fits, running_short, running_on, running_found, running_more}
 use Rattle.faces.proofs.phed_span.Goals as goal
 
-pub unwrap-requires : goal.unwrap-requires
-unwrap-requires c =
-    let l = c.loop in
-    item_left (λ r. r.now) phed_rest _ l.rings c.next.new.self (phed_rings c.args.cell.now.words.now) l.counter c.next.ensures.steps l.invariant.0 (omega arith)
+pub loop-at-init : goal.loop-at-init
+loop-at-init c = running_start c.args.words.now c.args.face
 
-pub overflow_add-start : goal.overflow_add-start
-overflow_add-start c =
-    let rs = phed_rings c.args.cell.now.words.now in
-    let l = c.loop in
-    let p = item_next (λ r. r.now) phed_rest _ _ l.rings c.next.new.self rs l.counter [] c.unwrap.ensures c.next.ensures.steps l.invariant.0 (omega arith) in
-    omega (arith, ap length p.0, span_within rs l.counter (omega arith), phed_few c.args.cell.now.words.now, l.invariant.1)
+pub loop-at-smaller-then-n-lt3 : goal.loop-at-smaller-then-n-lt3
+loop-at-smaller-then-n-lt3 c = omega (arith, c.loop-at-test.true)
 
-pub loop-preserved : goal.loop-preserved
-loop-preserved c =
-    let rs = phed_rings c.args.cell.now.words.now in
-    let l = c.loop in
-    let p = item_next (λ r. r.now) phed_rest _ _ l.rings c.next.new.self rs l.counter [] c.unwrap.ensures c.next.ensures.steps l.invariant.0 (omega arith) in
-    (p.1, omega (arith, ap length p.0, total_more rs l.counter (omega arith), l.invariant.1))
-
-pub unwrap-requires-2 : goal.unwrap-requires-2
-unwrap-requires-2 c =
-    let l = c.loop in
-    item_left (λ r. r.now) phed_rest _ l.rings c.next-2.new.self (phed_rings c.args.cell.now.words.now) l.counter c.next-2.ensures.steps l.invariant.0 (omega arith)
+pub loop-at-preserved-then-n-lt3 : goal.loop-at-preserved-then-n-lt3
+loop-at-preserved-then-n-lt3 c = running_short c.loop-at.invariant _ c.run_length-n.ensures c.loop-at-test.true (omega arith)
 
 pub overflow_add-result : goal.overflow_add-result
-overflow_add-result c =
-    let rs = phed_rings c.args.cell.now.words.now in
-    let l = c.loop in
-    let p = item_next (λ r. r.now) phed_rest _ _ l.rings c.next-2.new.self rs l.counter [] c.unwrap-2.ensures c.next-2.ensures.steps l.invariant.0 (omega arith) in
-    omega (arith, ap length p.0, span_within rs l.counter (omega arith), phed_few c.args.cell.now.words.now, l.invariant.1)
+overflow_add-result c = omega (arith, run_fits c.loop-at.invariant _ c.run_length-n.ensures c.loop-at-test.true, c.loop-at.invariant.small)
 
-pub returns : goal.returns
-returns c =
-    let rs = phed_rings c.args.cell.now.words.now in
-    let l = c.loop in
-    let p = item_next (λ r. r.now) phed_rest _ _ l.rings c.next-2.new.self rs l.counter [] c.unwrap-2.ensures c.next-2.ensures.steps l.invariant.0 (omega arith) in
-    let e : l.counter ≡ c.args.face = omega arith in
-    record {
-      start = l.invariant.1 ∙ ap (λ (k : ℕ). ring_total (take k rs)) e;
-      end = ap (λ (n : ℕ). l.start + n) (ap length p.0 ∙ ap (λ (k : ℕ). length (get_or rs k [])) e);
-    }
+pub returns-then-left-eq0 : goal.returns-then-left-eq0
+returns-then-left-eq0 c =
+    running_found c.loop-at.invariant _ c.run_length-n.ensures c.loop-at-test.true (omega arith) (omega arith) _ refl refl refl
+
+pub overflow_add-start : goal.overflow_add-start
+overflow_add-start c = omega (arith, run_fits c.loop-at.invariant _ c.run_length-n.ensures c.loop-at-test.true, c.loop-at.invariant.small)
+
+pub overflow_add-at-in-loop-at : goal.overflow_add-at-in-loop-at
+overflow_add-at-in-loop-at c = omega (arith, run_fits c.loop-at.invariant _ c.run_length-n.ensures c.loop-at-test.true)
+
+pub overflow_add-at-in-loop-at-2 : goal.overflow_add-at-in-loop-at-2
+overflow_add-at-in-loop-at-2 c = omega (arith, run_fits c.loop-at.invariant _ c.run_length-n.ensures c.loop-at-test.true)
+
+pub loop-at-smaller : goal.loop-at-smaller
+loop-at-smaller c = omega (arith, c.loop-at-test.true)
+
+pub loop-at-preserved : goal.loop-at-preserved
+loop-at-preserved c = running_on c.loop-at.invariant _ c.run_length-n.ensures c.loop-at-test.true (omega arith) (omega arith)
+
+pub unreachable-requires : goal.unreachable-requires
+unreachable-requires c = running_more c.loop-at.invariant c.requires (omega arith)

@@ -1,10 +1,10 @@
-use mathlib.Core.Path.{◌≡◌}
-use lib.ListN.{take, drop}
-use Rattle.mesh.specs.Rings.{phed_rings}
-use Rattle.mesh.specs.Steps.{ring_total}
-use Rattle.mesh.specs.PhedRest.{phed_rest}
+use Prim.Native.Nat.{◌-◌}
+use lib.ListN.{length}
+use Rattle.faces.proofs.Polyhedra.{Running}
 use Rattle.faces.proofs.phed_span.Given as goal
 
-abbrev pub invariant-loop : goal.invariant-loop
-invariant-loop l =
-    (phed_rest l.rings ≡ drop l.counter (phed_rings l.cell.words.now)) × (l.start ≡ ring_total (take l.counter (phed_rings l.cell.words.now)))
+abbrev pub invariant-loop-at : goal.invariant-loop-at
+invariant-loop-at l = Running l.words l.face l.left l.start l.at
+
+abbrev pub decreases-loop-at : goal.decreases-loop-at
+decreases-loop-at l = length l.words - l.at

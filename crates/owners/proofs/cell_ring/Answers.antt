@@ -33,16 +33,16 @@ put_cell-requires c =
 pub offset_bounds-room-s : goal.offset_bounds-room-s
 offset_bounds-room-s c =
     let x = c.args.cell.now in
-    omega (arith, fixed_total (kind_number x.kind) x.words.now x.well (no_phed x.kind c.in_default.not-Phed), span_end (rings_of (cell_raw x)) c.args.face c.requires _ c.cell_span-s.ensures)
+    omega (arith, fixed_total (kind_number x.kind) x.words.now x.well (no_phed x.kind c.in_default.not-Phed), span_end (rings_of (cell_raw x)) c.args.face c.requires _ c.cell_span-s.ensures.spot)
 
 pub slice_bounds-result-end : goal.slice_bounds-result-end
 slice_bounds-result-end c =
     let x = c.args.cell.now in
-    omega (arith, fixed_total (kind_number x.kind) x.words.now x.well (no_phed x.kind c.in_default.not-Phed), span_end (rings_of (cell_raw x)) c.args.face c.requires _ c.cell_span-s.ensures)
+    omega (arith, fixed_total (kind_number x.kind) x.words.now x.well (no_phed x.kind c.in_default.not-Phed), span_end (rings_of (cell_raw x)) c.args.face c.requires _ c.cell_span-s.ensures.spot)
 
 pub returns-in_default : goal.returns-in_default
 returns-in_default c =
     let x = c.args.cell.now in
-    span_is (rings_of (cell_raw x)) c.args.face c.requires _ c.cell_span-s.ensures c.args.room.now _
+    span_is (rings_of (cell_raw x)) c.args.face c.requires _ c.cell_span-s.ensures.spot c.args.room.now _
     (omega (arith, fixed_total (kind_number x.kind) x.words.now x.well (no_phed x.kind c.in_default.not-Phed)))
     c.put_cell.ensures.1
