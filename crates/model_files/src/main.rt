@@ -46,32 +46,34 @@ fn write_back(s: &[u8], model: &Model) -> Result<Written, Refusal> {
     }
 }
 
-// Reads into lists of which the longest files need more, and writes back. A model that was read is in the lists.
-fn trial(s: &[u8]) -> Result<Outcome, Refusal> {
+// Reads into lists of which the longest files need more, and writes back. None where a model was read that the lists don't hold: `read`
+// refuses those, and here it would be seen if it did not.
+fn trial(s: &[u8]) -> Result<Option<Outcome>, Refusal> {
     let mut coords = [0.0; 2000];
     let mut kinds = [0u8; 400];
     let mut ends = [0u32; 400];
     let mut words = [0u32; 4000];
     let f = model_read::read(s, &mut coords, &mut kinds, &mut ends, &mut words)?;
-    let model = f
-        .model(&coords, &kinds, &ends, &words)
-        .ok_or(Refusal::Room)?;
-    Ok(Outcome {
+    let Some(model) = f.model(&coords, &kinds, &ends, &words) else {
+        return Ok(None);
+    };
+    Ok(Some(Outcome {
         nodes: f.nodes,
         cells: f.cells,
         words: f.words,
         sum: sum_of(model.words, sum_of(model.ends, 0)),
         written: write_back(s, &model),
-    })
+    }))
 }
 
 // ---- printing
 
-// A line's end: why reading refuses, or what was read, and what came of writing it back.
-fn say_outcome(rt: &impl Print, outcome: Result<Outcome, Refusal>) -> io::Result<()> {
+// A line's end: why reading refuses, 255 where it should have, or what was read, and what came of writing it back.
+fn say_outcome(rt: &impl Print, outcome: Result<Option<Outcome>, Refusal>) -> io::Result<()> {
     let t = match outcome {
         Err(e) => return println!(rt; " {e}"),
-        Ok(t) => t,
+        Ok(None) => return println!(rt; " refused 255"),
+        Ok(Some(t)) => t,
     };
     print!(rt;
         " nodes {} cells {} words {} sum {}",
@@ -92,9 +94,14 @@ fn digit(refused: Refusal) -> char {
     }
 }
 
-// One letter for an outcome: the number that refuses, = for the same bytes, ! for others.
-fn letter(outcome: Result<Outcome, Refusal>) -> char {
-    match outcome.and_then(|t| t.written) {
+// One letter for an outcome: the number that refuses, ? where reading should have refused, = for the same bytes, ! for others.
+fn letter(outcome: Result<Option<Outcome>, Refusal>) -> char {
+    let t = match outcome {
+        Err(e) => return digit(e),
+        Ok(None) => return '?',
+        Ok(Some(t)) => t,
+    };
+    match t.written {
         Err(e) => digit(e),
         Ok(Written::Same) => '=',
         Ok(Written::Different) => '!',
@@ -136,9 +143,9 @@ fn damage_all(rt: &impl Print, s: &mut [u8], by: u8) -> io::Result<()> {
     Ok(())
 }
 
-// The file cut short behind each record. By number: a turn takes the first n records, which `chunks` does not give.
+// The file cut short behind each record, of 2,048 at most. By number: a turn takes the first n records, which `chunks` does not give.
 fn cut_all(rt: &impl Print, s: &[u8]) -> io::Result<()> {
-    for n in 0..s.len() / 32 + 1 {
+    for n in 0..(s.len() / 32 + 1).min(2048) {
         print!(rt; "{}", letter(trial(&s[..32 * n])))?;
     }
     println!(rt; "")
@@ -151,12 +158,14 @@ fn damages(rt: &impl Print, s: &mut [u8]) -> io::Result<()> {
     damage_all(rt, s, 128)
 }
 
+// A file that is not there is one without bytes.
 fn damaged<R: Files + Print>(rt: &R) -> io::Result<()> {
-    print!(rt; "good.in")?;
     let mut buf = [0u8; 65536];
-    match test_support::read_file(rt, "good.in", &mut buf) {
+    let file = test_support::read_file(rt, "good.in", &mut buf);
+    print!(rt; "good.in")?;
+    match file {
         Some(s) => damages(rt, s),
-        None => println!(rt; " is not there"),
+        None => damages(rt, &mut []),
     }
 }
 

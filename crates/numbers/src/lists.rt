@@ -1,14 +1,14 @@
 // Lists of recorded sets: for each the length of its name in a byte, the name, its size in four bytes, its bytes.
 ghost use Rattle.std.specs.Prelude.{◌<◌, length, IfSome};
 
+use std::io;
 use std::rt::Files;
-use std::{io, str};
 use test_support::{Entries, Entry};
 
 // A recorded set: its name, and its bytes.
 #[derive(Clone, Copy)]
 struct Set<'a> {
-    name: &'a str,
+    name: &'a [u8],
     bytes: &'a [u8],
 }
 
@@ -18,7 +18,6 @@ impl<'a> Entry<'a> for Set<'a> {
         let (name, rest) = rest.split_at_checked(*len as usize)?;
         let (size, rest) = rest.split_first_chunk::<4>()?;
         let (bytes, rest) = rest.split_at_checked(u32::from_le_bytes(*size) as usize)?;
-        let name = str::from_utf8(name).ok()?;
         Some((Set { name, bytes }, rest))
     }
 }
@@ -30,7 +29,7 @@ fn run_all<F: Fn(&[u8]) -> bool>(rt: &impl Print, list: &[u8], agrees: F) -> io:
     for entry in Entries::<Set>::new(list) {
         match entry {
             Ok(set) => test_support::tell_agrees(rt, set.name, agrees(set.bytes))?,
-            Err(_) => test_support::tell_agrees(rt, "an entry cut short", false)?,
+            Err(_) => test_support::tell_agrees(rt, b"an entry cut short", false)?,
         }
     }
     Ok(())

@@ -8,15 +8,18 @@ ghost use Rattle.std.specs.Prelude.{◌<◌, length, IfSome};
 use crate::nodes;
 use mesh::{Checks, Model};
 use refusals::Refusal;
+use std::io;
 use std::rt::Files;
-use std::{io, str};
-use test_support::{Entries, Entry};
+use test_support::{CutShort, Entries, Entry};
+
+// How many bytes stand before a model's name.
+const HEAD: usize = 24;
 
 // A model of the list: what stands before its name, the name, and the lists, as bytes.
 #[derive(Clone, Copy)]
 struct Listed<'a> {
-    head: &'a [u8; 24],
-    name: &'a str,
+    head: &'a [u8; HEAD],
+    name: &'a [u8],
     coords: &'a [u8],
     kinds: &'a [u8],
     ends: &'a [u8],
@@ -25,13 +28,12 @@ struct Listed<'a> {
 
 impl<'a> Entry<'a> for Listed<'a> {
     fn split_first(list: &'a [u8]) -> Option<(Listed<'a>, &'a [u8])> {
-        let (head, rest) = list.split_first_chunk::<24>()?;
+        let (head, rest) = list.split_first_chunk::<HEAD>()?;
         let (name, rest) = rest.split_at_checked(head[0] as usize)?;
         let (coords, rest) = rest.split_at_checked(8 * head[1] as usize)?;
         let (kinds, rest) = rest.split_at_checked(head[2] as usize)?;
         let (ends, rest) = rest.split_at_checked(4 * head[3] as usize)?;
         let (words, rest) = rest.split_at_checked(4 * head[4] as usize)?;
-        let name = str::from_utf8(name).ok()?;
         Some((
             Listed {
                 head,
@@ -73,12 +75,23 @@ fn judge(m: &Listed) -> u64 {
     refusal(&model)
 }
 
-// A line for each model of the list.
+// The line for a model.
+fn tell(rt: &impl Print, m: &Listed) -> io::Result<()> {
+    let says = judge(m);
+    rt.write_all(m.name)?;
+    println!(rt; " {says}")
+}
+
+// A line for each model of the list. Bytes that are fewer than a head end it without one.
 fn judge_all(rt: &impl Print, list: &[u8]) -> io::Result<()> {
     for entry in Entries::<Listed>::new(list) {
         match entry {
-            Ok(m) => println!(rt; "{} {}", m.name, judge(&m))?,
-            Err(_) => println!(rt; "a model cut short 255")?,
+            Ok(m) => tell(rt, &m)?,
+            Err(CutShort { len }) => {
+                if HEAD <= len {
+                    println!(rt; "a model cut short 255")?;
+                }
+            }
         }
     }
     Ok(())

@@ -4,8 +4,8 @@ ghost use Rattle.std.specs.Prelude.{◌<◌, ◌≤◌, length, IfSome};
 
 use crate::{lent, ways};
 use records::Kind;
+use std::io;
 use std::rt::Files;
-use std::{io, str};
 use test_support::{Entries, Entry};
 
 // How many models were run, of how many the records and the ways agree, and how many faces were sought each way.
@@ -82,27 +82,37 @@ impl<'a> Entry<'a> for Recorded<'a> {
     }
 }
 
-// A recorded model, checked by either way: how many faces were sought each way; none where the ways differ, or the program's records are
-// not the recorded ones.
-fn agrees(recorded: Recorded) -> Option<u64> {
+// What came of a recorded model: whether the ways agree and the program's records are the recorded ones, and how many faces were sought
+// each way, which is told whatever the records are.
+#[derive(Clone, Copy, Default)]
+struct Replayed {
+    alike: bool,
+    faces: u64,
+}
+
+// A recorded model, replayed and checked by either way.
+fn agrees(recorded: Recorded) -> Replayed {
     let mut findings = [lent::MARK; 32768];
     let mut out = [0u8; 65600];
     lent::run_model(recorded.model, &mut findings, &mut out);
-    let faces = ways::by_either(recorded.model)?;
-    is_front(&findings, recorded.records).then_some(faces)
+    let sought = ways::by_either(recorded.model);
+    Replayed {
+        alike: sought.is_some() & is_front(&findings, recorded.records),
+        faces: sought.unwrap_or(0),
+    }
 }
 
 // ---- many models
 
 // Counts a model, with a line if it differs.
-fn counted(rt: &impl Print, t: Tally, sought: Option<u64>) -> io::Result<Tally> {
-    if sought.is_none() {
+fn counted(rt: &impl Print, t: Tally, model: Replayed) -> io::Result<Tally> {
+    if !model.alike {
         println!(rt; "model {} differs", t.models)?;
     }
     Ok(Tally {
         models: test_support::more(t.models, true),
-        agree: test_support::more(t.agree, sought.is_some()),
-        faces: t.faces.wrapping_add(sought.unwrap_or(0)),
+        agree: test_support::more(t.agree, model.alike),
+        faces: t.faces.wrapping_add(model.faces),
     })
 }
 
@@ -110,11 +120,11 @@ fn counted(rt: &impl Print, t: Tally, sought: Option<u64>) -> io::Result<Tally> 
 fn replay(rt: &impl Print, s: &[u8], before: Tally) -> io::Result<Tally> {
     let mut t = before;
     for entry in Entries::<Recorded>::new(s) {
-        let sought = match entry {
+        let model = match entry {
             Ok(recorded) => agrees(recorded),
-            Err(_) => None,
+            Err(_) => Replayed::default(),
         };
-        t = counted(rt, t, sought)?;
+        t = counted(rt, t, model)?;
     }
     Ok(t)
 }
@@ -147,7 +157,7 @@ fn replay_parts<R: Files + Print>(rt: &R) -> io::Result<()> {
 // A pin: a name and a recorded model. The length of its name stands in a byte before it.
 #[derive(Clone, Copy)]
 struct Pin<'a> {
-    name: &'a str,
+    name: &'a [u8],
     recorded: Recorded<'a>,
 }
 
@@ -155,7 +165,6 @@ impl<'a> Entry<'a> for Pin<'a> {
     fn split_first(list: &'a [u8]) -> Option<(Pin<'a>, &'a [u8])> {
         let (size, rest) = list.split_first()?;
         let (name, rest) = rest.split_at_checked(*size as usize)?;
-        let name = str::from_utf8(name).ok()?;
         let (recorded, rest) = Recorded::split_first(rest)?;
         Some((Pin { name, recorded }, rest))
     }
@@ -165,8 +174,8 @@ impl<'a> Entry<'a> for Pin<'a> {
 fn replay_pins(rt: &impl Print, s: &[u8]) -> io::Result<()> {
     for entry in Entries::<Pin>::new(s) {
         match entry {
-            Ok(pin) => test_support::tell_agrees(rt, pin.name, agrees(pin.recorded).is_some())?,
-            Err(_) => test_support::tell_agrees(rt, "a pin cut short", false)?,
+            Ok(pin) => test_support::tell_agrees(rt, pin.name, agrees(pin.recorded).alike)?,
+            Err(_) => test_support::tell_agrees(rt, b"a pin cut short", false)?,
         }
     }
     Ok(())

@@ -8,16 +8,32 @@ use arrayvec::ArrayString;
 use floats::Stored;
 use refusals::Refusal;
 use std::fmt::Write;
+use std::io::Read;
 use std::marker::PhantomData;
 use std::rt::Files;
 use std::{fs, io};
 
 // ---- files
 
-// Reads the file of that name to the front of buf, and answers that part; none where there is no such file or it is not read.
-pub fn read_file<'a, R: Files>(rt: &R, name: &str, buf: &'a mut [u8]) -> Option<&'a mut [u8]> {
-    let mut file = fs::open(rt, name).ok()?;
-    let n = full_reads::read_full(&mut file, buf).ok()?;
+// An input that ends where a read of it fails.
+#[derive(Drop)]
+struct UpToFailure<R> {
+    input: R,
+}
+
+impl<R: Read> Read for UpToFailure<R> {
+    fn read(&mut self, buf: &mut [u8]) -> io::Result<usize> {
+        Ok(self.input.read(buf).unwrap_or(0))
+    }
+}
+
+// Reads the file of that name to the front of buf, until buf is full, the file ends or a read fails, and answers that part; none where
+// there is no such file.
+pub fn read_file<'a, R: Files>(rt: &R, name: &str, buf: &'a mut [u8]) -> Option<&'a mut [u8]>
+    ensures { IfSome result (λ s. length s.now ≤ length buf.old) }
+{
+    let input = fs::open(rt, name).ok()?;
+    let n = full_reads::read_full(&mut UpToFailure { input }, buf).unwrap_or(0);
     Some(&mut buf[..n])
 }
 
@@ -27,7 +43,9 @@ pub fn read_case<'a, R: Files>(
     n: usize,
     ending: &str,
     buf: &'a mut [u8],
-) -> Option<&'a mut [u8]> {
+) -> Option<&'a mut [u8]>
+    ensures { IfSome result (λ s. length s.now ≤ length buf.old) }
+{
     let mut name = ArrayString::<32>::new();
     write!(name, "case-{n:04}.{ending}").ok()?;
     read_file(rt, &name, buf)
@@ -42,9 +60,11 @@ pub trait Entry<'a>: Copy {
         ensures { IfSome result (λ p. length p.1.now < length list.now) };
 }
 
-// An entry that is cut short.
+// An entry that is cut short: how many bytes there are of it.
 #[derive(Clone, Copy, Debug)]
-pub struct CutShort;
+pub struct CutShort {
+    pub len: usize,
+}
 
 // The entries of a list, one after the other; one that is cut short is the last.
 #[derive(Clone, Copy)]
@@ -77,8 +97,9 @@ impl<'a, T: Entry<'a>> Iterator for Entries<'a, T> {
                 Some(Ok(entry))
             }
             None => {
+                let len = self.list.len();
                 self.list = &[];
-                Some(Err(CutShort))
+                Some(Err(CutShort { len }))
             }
         }
     }
@@ -121,12 +142,13 @@ pub fn refused<T: Copy>(answer: Result<T, Refusal>) -> u64 {
 
 // ---- lines
 
-// A line: a name, and whether what it stands for agrees.
-pub fn tell_agrees(rt: &impl Print, name: &str, agrees: bool) -> io::Result<()> {
+// A line: a name, whatever its bytes, and whether what it stands for agrees.
+pub fn tell_agrees(rt: &impl Print, name: &[u8], agrees: bool) -> io::Result<()> {
+    rt.write_all(name)?;
     if agrees {
-        println!(rt; "{name} agrees")
+        println!(rt; " agrees")
     } else {
-        println!(rt; "{name} differs")
+        println!(rt; " differs")
     }
 }
 
