@@ -128,7 +128,7 @@ reading together-less $area 'if far <= eps {' 'if far < eps {' 'numbers together
 reading direction-equal $area 'if geometry::longer(d, eps) {' 'if geometry::size(d) >= eps {' \
     'numbers direction-equal-*' 'replay direction-equal-*'
 # direction: the longest difference, not the first with root > eps
-reading direction-longest $area 'if geometry::longer(d, eps) {' 'if geometry::dot(d, d) >= most(rest, o) {' \
+reading direction-longest $area 'if geometry::longer(d, eps) {' 'if geometry::dot(d, d) >= self.most() {' \
     'numbers direction-longest-*' 'replay direction-longest-*'
 # the squared distance in welding: dx² + (dy² + dz²)
 reading sum-order snap/src/sweeping.rt 'geometry::dot(d, d) <= limit' 'd.x * d.x + (d.y * d.y + d.z * d.z) <= limit' \
