@@ -1,20 +1,29 @@
--- The fields of a record are read back.
-use Prim.Native.Nat.{ℕ, zero, suc, ◌*◌, ◌≤◌, ◌<◌, ◌+◌}
+-- The fields of a record are read back; a kind as four bytes.
+use Prim.Native.Nat.{ℕ, zero, suc, ◌*◌, ◌/◌, ◌%◌, ◌≤◌, ◌<◌, ◌+◌}
 use mathlib.Core.Path.{◌≡◌, sym, ap, ◌∙◌}
-use mathlib.Core.List.{List, [], ◌++◌}
+use mathlib.Core.List.{List, [], ◌∷◌, ◌++◌}
 use native.Mathlib.Nat.{add-zero}
 use native.Mathlib.Omega.{arith}
-use lib.ListN.{get_or, take, drop}
+use lib.ListN.{get_or, take, drop, replicate}
 use lib.Seq.{drop-drop, get_or-drop, take-take}
 use Rattle.std.specs.Simd.{first_chunks}
 use Rattle.std.proofs.lemmas.List.{get_or-take}
-use Rattle.laws.specs.Bytes.{number}
+use Rattle.laws.specs.Bytes.{number, bytes}
 use Rattle.laws.proofs.ByteLaws.{number_bytes}
 use Rattle.laws.proofs.Stores.{slice-region}
 use Rattle.geometry.specs.declared.Point.{Point}
 use Rattle.findings.specs.Records.{Fields, record_bytes}
 use Rattle.findings.specs.Demand3.{Below}
 use Rattle.records.specs.Read.{word, fields_in}
+
+-- a number below 256 as four bytes: itself and three zeros
+pub one_of_four : (k : ℕ) → k < 256 → bytes 4 k ≡ k ∷ replicate 3 0
+one_of_four k h =
+    let a : k % 256 ≡ k = omega arith in
+    let b : k / 256 % 256 ≡ 0 = omega arith in
+    let d : k / 256 / 256 % 256 ≡ 0 = omega arith in
+    let e : k / 256 / 256 / 256 % 256 ≡ 0 = omega arith in
+    λ i. a i ∷ b i ∷ d i ∷ e i ∷ []
 
 -- a word of what stands from a place on
 word_from : (s : List ℕ) (at k : ℕ) → word s (at + k) ≡ word (drop at s) k
