@@ -33,7 +33,7 @@ keep_partly-tally-requires c =
     let most = tallied_most (by_nodes c.args.way) _ _ o.tally o.invariant.tallied in
     let few = first_most c.args.cx.now.layout c.args.work.now c.requires.standing.faced o.c (omega (arith, more)) in record {
       standing = o.invariant.still.standing;
-      c_bound = (more, subst (Keyed c.args.cx.now.layout.at c.args.by) (sym o.invariant.still.same) c.requires.keyed);
+      c_bound = (omega (arith, more), subst (Keyed c.args.cx.now.layout.at c.args.by) (sym o.invariant.still.same) c.requires.keyed);
       few = (
         omega (arith, o.invariant.few, more, c.requires.standing.spaced.few_cells),
         omega (arith, most.0, few, c.requires.standing.spaced.few_faces),
