@@ -4,13 +4,18 @@
 #   --as-program  the operations one by one, with the program's limits
 #   --run         the program's whole run in one call
 #   no option     with all the memory that the model needs: compared where no limit of the program applies
-# The exit code is 1 if one differs.
+# It also holds what the library needs from outside against docs/MANUAL.md: `memcpy` and `memset`. The exit code is 1 if one differs.
 set -euo pipefail
 cd "$(dirname "${BASH_SOURCE[0]}")/.."
 (cd crates/capi && rt lib) >&2
 (cd crates/lenoshale && rt run </dev/null >/dev/null)
 dir=target/link
 mkdir -p "$dir"
+needs=$(nm -u crates/capi/out/libcapi.a | sed -n 's/^ *U //p' | sort -u | tr '\n' ' ')
+if [ "$needs" != 'memcpy memset ' ]; then
+    echo "the library needs $needs from outside, and not memcpy and memset"
+    exit 1
+fi
 gcc -std=c11 -O2 -Wall -Wextra -Werror -Iinclude -o "$dir/c" examples/check_file.c crates/capi/out/libcapi.a
 g++ -Wall -Wextra -Werror -fsyntax-only -x c++ include/lenoshale.h
 for name in check_file operations; do
