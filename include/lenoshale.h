@@ -11,8 +11,8 @@
  *
  * A float that is read from a file or lent may be a NaN of any pattern: every NaN is taken for the one NaN. No accepted model has one.
  *
- * Stack, in bytes, the most that was measured on the largest models (tools/bench/stack.sh, rattle-kit-13f): run 189,640; check
- * 6,328; fill_ring_lists 1,632; weld 1,440; face_owners 1,424; area_test 1,160; root 920; each other function under 500. */
+ * Stack, in bytes, the most that was measured on the largest models (tools/bench/stack.sh, rattle-kit-13f): run 189,656; check
+ * 6,392; fill_ring_lists 1,632; weld 1,424; face_owners 1,512; area_test 1,160; root 920; each other function under 500. */
 #ifndef LENOSHALE_H
 #define LENOSHALE_H
 

@@ -28,16 +28,13 @@ impl<'a> Text<'a> {
         Text { out, at }
     }
 
-    // A text that is at hand. One by one: `copy_from_slice` calls memcpy, and most texts are a byte or a few digits.
+    // A text that is at hand.
     fn put(&mut self, text: &[u8])
         requires { self.old.at + length text.now ≤ length self.old.out.now }
         ensures { Wrote (length text.now) text.now self.old self.new }
     {
         let end = self.at + text.len();
-        let part = &mut self.out[self.at..end];
-        for (i, byte) in text.iter().enumerate() {
-            part[i] = *byte;
-        }
+        self.out[self.at..end].copy_from_slice(text);
         self.at = end;
     }
 
