@@ -17,7 +17,7 @@ use Rattle.mesh.specs.declared.CellTally.{CellTally}
 use Rattle.mesh.specs.declared.accepted.Cell.{Cell}
 use Rattle.mesh.specs.declared.accepted.Cells.{Cells}
 use Rattle.mesh.proofs.CellTallies.{words_in, total_append}
-use Rattle.faces.specs.Spans.{rings_left, SpanIn, CellFound}
+use Rattle.faces.specs.Spans.{SpanIn, CellFound}
 use Rattle.faces.specs.declared.Place.{Place}
 use Rattle.faces.proofs.Bounds.{rings_total}
 use Rattle.faces.proofs.Rings.{span_within}
@@ -90,48 +90,43 @@ finding_here {later = later} cs p n q c is h =
       small = omega (arith, q, p.small);
     }
 
+-- ---- a face of one of the cells
+
+module _ {cs : List Raw} {f face : ℕ} (before behind : List Raw) (c : Raw) (parts : before ++ c ∷ behind ≡ cs) (count : length (each rings_of before) + face ≡ f) (within : face < length (rings_of c)) where
+  rings_are : each rings_of cs ≡ each rings_of before ++ (rings_of c ++ each rings_of behind)
+  rings_are = ap (each rings_of) (sym parts) ∙ each_append rings_of before (c ∷ behind)
+
+  -- the face's ring is its ring in the cell
+  pub found_ring : get_or (each rings_of cs) f [] ≡ get_or (rings_of c) face []
+  found_ring =
+      ap (λ (l : List (List ℕ)). get_or l f []) rings_are
+      ∙ ap (λ (j : ℕ). get_or (each rings_of before ++ (rings_of c ++ each rings_of behind)) j []) (sym count)
+      ∙ get_or-append-add (each rings_of before) (rings_of c ++ each rings_of behind) face []
+      ∙ get_or-append (rings_of c) (each rings_of behind) [] face within
+
+  -- and it starts behind the ring words before the cell
+  found_start : ring_total (take f (each rings_of cs)) ≡ ring_total (each rings_of before) + ring_total (take face (rings_of c))
+  found_start =
+      ap (λ (l : List (List ℕ)). ring_total (take f l)) rings_are
+      ∙ ap (λ (j : ℕ). ring_total (take j (each rings_of before ++ (rings_of c ++ each rings_of behind)))) (sym count)
+      ∙ ap ring_total (take-append-add (each rings_of before) (rings_of c ++ each rings_of behind) face)
+      ∙ total_append (each rings_of before) (take face (rings_of c ++ each rings_of behind))
+      ∙ omega (arith, ap ring_total (take-append-le face (rings_of c) (each rings_of behind) (omega (arith, within))))
+
+  -- so this is where it stands among all rings
+  pub found_span : (start : ℕ) → start ≡ ring_total (each rings_of before) → (s : Range ℕ) → SpanIn (rings_of c) face s
+      → (r : Range ℕ) → r.start ≡ start + s.start → r.end ≡ start + s.end → SpanIn (each rings_of cs) f r
+  found_span start passed s q r a b = record { start = omega (arith, a, passed, q.start, found_start); end = omega (arith, a, b, q.end, ap length found_ring) }
+
 -- ---- the cell found
 
 module _ (cs : Cells) (f : ℕ) (p : Place) (c : CellFound cs f p) where
-  abbrev here : List (List ℕ)
-  here = rings_of (cell_raw p.cell)
-
-  abbrev before : List (List ℕ)
-  before = each rings_of c.before
-
-  abbrev behind : List (List ℕ)
-  behind = each rings_of c.behind
-
-  rings_are : rings_left cs ≡ before ++ (here ++ behind)
-  rings_are = ap (each rings_of) (sym c.parts) ∙ each_append rings_of c.before (cell_raw p.cell ∷ c.behind)
-
-  -- the face's ring is its ring in the cell
-  pub found_ring : get_or (rings_left cs) f [] ≡ get_or here p.face []
-  found_ring =
-      ap (λ (l : List (List ℕ)). get_or l f []) rings_are
-      ∙ ap (λ (j : ℕ). get_or (before ++ (here ++ behind)) j []) (sym c.face)
-      ∙ get_or-append-add before (here ++ behind) p.face []
-      ∙ get_or-append here behind [] p.face c.within
-
-  -- and it starts behind the ring words before the cell
-  found_start : ring_total (take f (rings_left cs)) ≡ p.start + ring_total (take p.face here)
-  found_start =
-      ap (λ (l : List (List ℕ)). ring_total (take f l)) rings_are
-      ∙ ap (λ (j : ℕ). ring_total (take j (before ++ (here ++ behind)))) (sym c.face)
-      ∙ ap ring_total (take-append-add before (here ++ behind) p.face)
-      ∙ total_append before (take p.face (here ++ behind))
-      ∙ omega (arith, c.start, ap ring_total (take-append-le p.face here behind (omega (arith, c.within))))
-
   -- the ring words up to the cell's end are few
-  words_few : p.start + ring_total here < 4294967296
+  words_few : p.start + ring_total (rings_of (cell_raw p.cell)) < 4294967296
   words_few =
       let passed : Finding (cells_rest cs) f (cell_raw p.cell ∷ c.behind) p.number p.from p.face p.start = record { seen = c.before; parts = c.parts; face_left = c.face; passed = c.start; counted = c.number; behind_words = c.from; small = c.small } in
       let w = walk_bounds passed (cell_raw p.cell) refl in
       omega (arith, w.0, w.1, c.small, cs.few, cs.small, rings_total (kind_number p.cell.kind) p.cell.words.now p.cell.well)
 
-  module _ (s : Range ℕ) (q : SpanIn here p.face s) where
-    pub found_span : (r : Range ℕ) → r.start ≡ p.start + s.start → r.end ≡ p.start + s.end → SpanIn (rings_left cs) f r
-    found_span r a b = record { start = omega (arith, a, q.start, found_start); end = omega (arith, a, b, q.end, ap length found_ring) }
-
-    pub found_fits : (s.start ≤ s.end) × (p.start + s.end < 4294967296)
-    found_fits = (omega (arith, q.end), omega (arith, q.start, q.end, span_within here p.face c.within, words_few))
+  pub found_fits : (s : Range ℕ) → SpanIn (rings_of (cell_raw p.cell)) p.face s → (s.start ≤ s.end) × (p.start + s.end < 4294967296)
+  found_fits s q = (omega (arith, q.end), omega (arith, q.start, q.end, span_within (rings_of (cell_raw p.cell)) p.face c.within, words_few))

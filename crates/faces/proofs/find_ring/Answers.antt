@@ -11,6 +11,6 @@ overflow_add-result-2 c = omega (arith, found_fits c.args.cells c.args.face _ c.
 
 pub returns : goal.returns
 returns c = (
-  found_span c.args.cells c.args.face _ c.find_cell-p.ensures _ c.cell_span-s.ensures.spot _ refl refl,
+  found_span _ _ _ c.find_cell-p.ensures.parts c.find_cell-p.ensures.face c.find_cell-p.ensures.within _ c.find_cell-p.ensures.start _ c.cell_span-s.ensures.spot _ refl refl,
   omega (arith, found_fits c.args.cells c.args.face _ c.find_cell-p.ensures _ c.cell_span-s.ensures.spot),
 )
