@@ -118,15 +118,42 @@ module _ {cs : List Raw} {f face : ℕ} (before behind : List Raw) (c : Raw) (pa
       → (r : Range ℕ) → r.start ≡ start + s.start → r.end ≡ start + s.end → SpanIn (each rings_of cs) f r
   found_span start passed s q r a b = record { start = omega (arith, a, passed, q.start, found_start); end = omega (arith, a, b, q.end, ap length found_ring) }
 
+  -- and where it ends
+  pub found_end : (start : ℕ) → start ≡ ring_total (each rings_of before) → (s : Range ℕ) → SpanIn (rings_of c) face s → start + s.end ≤ ring_total (each rings_of cs)
+  found_end start passed s q =
+      omega (
+        arith,
+        passed,
+        q.start,
+        q.end,
+        span_within (rings_of c) face within,
+        ap ring_total rings_are,
+        total_append (each rings_of before) (rings_of c ++ each rings_of behind),
+        total_append (rings_of c) (each rings_of behind),
+      )
+
 -- ---- the cell found
 
 module _ (cs : Cells) (f : ℕ) (p : Place) (c : CellFound cs f p) where
   -- the ring words up to the cell's end are few
-  words_few : p.start + ring_total (rings_of (cell_raw p.cell)) < 4294967296
+  words_few : ring_total (each rings_of (c.before ++ cell_raw p.cell ∷ [])) < 4294967296
   words_few =
       let passed : Finding (cells_rest cs) f (cell_raw p.cell ∷ c.behind) p.number p.from p.face p.start = record { seen = c.before; parts = c.parts; face_left = c.face; passed = c.start; counted = c.number; behind_words = c.from; small = c.small } in
       let w = walk_bounds passed (cell_raw p.cell) refl in
-      omega (arith, w.0, w.1, c.small, cs.few, cs.small, rings_total (kind_number p.cell.kind) p.cell.words.now p.cell.well)
+      let here = rings_of (cell_raw p.cell) in
+      omega (
+        arith,
+        ap ring_total (each_append rings_of c.before (cell_raw p.cell ∷ [])),
+        total_append (each rings_of c.before) (here ++ []),
+        total_append here [],
+        c.start,
+        w.0,
+        w.1,
+        c.small,
+        cs.few,
+        cs.small,
+        rings_total (kind_number p.cell.kind) p.cell.words.now p.cell.well,
+      )
 
   pub found_fits : (s : Range ℕ) → SpanIn (rings_of (cell_raw p.cell)) p.face s → (s.start ≤ s.end) × (p.start + s.end < 4294967296)
-  found_fits s q = (omega (arith, q.end), omega (arith, q.start, q.end, span_within (rings_of (cell_raw p.cell)) p.face c.within, words_few))
+  found_fits s q = (omega (arith, q.end), omega (arith, found_end c.before [] (cell_raw p.cell) refl c.face c.within p.start c.start s q, words_few))
