@@ -92,7 +92,8 @@ finding_here {later = later} cs p n q c is h =
 
 -- ---- a face of one of the cells
 
-module _ {cs : List Raw} {f face : ℕ} (before behind : List Raw) (c : Raw) (parts : before ++ c ∷ behind ≡ cs) (count : length (each rings_of before) + face ≡ f) (within : face < length (rings_of c)) where
+module _ {cs : List Raw} {f face : ℕ} (before behind : List Raw) (c : Raw) (parts : before ++ c ∷ behind ≡ cs)
+    (count : length (each rings_of before) + face ≡ f) (within : face < length (rings_of c)) where
   rings_are : each rings_of cs ≡ each rings_of before ++ (rings_of c ++ each rings_of behind)
   rings_are = ap (each rings_of) (sym parts) ∙ each_append rings_of before (c ∷ behind)
 
@@ -119,7 +120,8 @@ module _ {cs : List Raw} {f face : ℕ} (before behind : List Raw) (c : Raw) (pa
   found_span start passed s q r a b = record { start = omega (arith, a, passed, q.start, found_start); end = omega (arith, a, b, q.end, ap length found_ring) }
 
   -- and where it ends
-  pub found_end : (start : ℕ) → start ≡ ring_total (each rings_of before) → (s : Range ℕ) → SpanIn (rings_of c) face s → start + s.end ≤ ring_total (each rings_of cs)
+  pub found_end : (start : ℕ) → start ≡ ring_total (each rings_of before) → (s : Range ℕ) → SpanIn (rings_of c) face s
+      → start + s.end ≤ ring_total (each rings_of cs)
   found_end start passed s q =
       omega (
         arith,
@@ -155,5 +157,6 @@ module _ (cs : Cells) (f : ℕ) (p : Place) (c : CellFound cs f p) where
         rings_total (kind_number p.cell.kind) p.cell.words.now p.cell.well,
       )
 
+  -- so a 32-bit number can say where the face's ring ends
   pub found_fits : (s : Range ℕ) → SpanIn (rings_of (cell_raw p.cell)) p.face s → (s.start ≤ s.end) × (p.start + s.end < 4294967296)
   found_fits s q = (omega (arith, q.end), omega (arith, found_end c.before [] (cell_raw p.cell) refl c.face c.within p.start c.start s q, words_few))

@@ -10,7 +10,9 @@ pub overflow_add-result-2 : goal.overflow_add-result-2
 overflow_add-result-2 c = omega (arith, found_fits c.args.cells c.args.face _ c.find_cell-p.ensures _ c.cell_span-s.ensures.spot)
 
 pub returns : goal.returns
-returns c = (
-  found_span _ _ _ c.find_cell-p.ensures.parts c.find_cell-p.ensures.face c.find_cell-p.ensures.within _ c.find_cell-p.ensures.start _ c.cell_span-s.ensures.spot _ refl refl,
-  omega (arith, found_fits c.args.cells c.args.face _ c.find_cell-p.ensures _ c.cell_span-s.ensures.spot),
-)
+returns c =
+    let p = c.find_cell-p.ensures in
+    let s = c.cell_span-s.ensures.spot in (
+      found_span _ _ _ p.parts p.face p.within _ p.start _ s _ refl refl,
+      omega (arith, found_fits c.args.cells c.args.face _ p _ s),
+    )

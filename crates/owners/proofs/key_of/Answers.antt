@@ -26,5 +26,8 @@ returns c =
     let m = lent c.args.model.now.model in
     let x = c.find_cell-p.result.cell in
     let short : length c.cell_ring.result.now ≤ 64 = omega (arith, ap length c.cell_ring.ensures, ring_short (kind_number x.kind) x.words.now c.find_cell-p.result.face x.well c.find_cell-p.ensures.within) in
-    let e = c.sorted.ensures ∙ ap (sort leb) (c.cell_ring.ensures ∙ sym (found_ring _ _ _ c.find_cell-p.ensures.parts c.find_cell-p.ensures.face c.find_cell-p.ensures.within) ∙ ap (λ (rs : List (List ℕ)). get_or rs c.args.face []) (left_rings c.cells.result m c.cells.ensures)) in
+    let p = c.find_cell-p.ensures in
+    let ring = found_ring _ _ _ p.parts p.face p.within in
+    let all = ap (λ (rs : List (List ℕ)). get_or rs c.args.face []) (left_rings c.cells.result m c.cells.ensures) in
+    let e = c.sorted.ensures ∙ ap (sort leb) (c.cell_ring.ensures ∙ sym ring ∙ all) in
     (e, omega (arith, short, ap length c.sorted.ensures, length-sort leb c.cell_ring.result.now))
