@@ -119,10 +119,10 @@ module _ {cs : List Raw} {f face : ℕ} (before behind : List Raw) (c : Raw) (pa
       → (r : Range ℕ) → r.start ≡ start + s.start → r.end ≡ start + s.end → SpanIn (each rings_of cs) f r
   found_span start passed s q r a b = record { start = omega (arith, a, passed, q.start, found_start); end = omega (arith, a, b, q.end, ap length found_ring) }
 
-  -- and where it ends
+  -- and it ends below each number that all ring words are below
   pub found_end : (start : ℕ) → start ≡ ring_total (each rings_of before) → (s : Range ℕ) → SpanIn (rings_of c) face s
-      → start + s.end ≤ ring_total (each rings_of cs)
-  found_end start passed s q =
+      → (n : ℕ) → ring_total (each rings_of cs) < n → start + s.end < n
+  found_end start passed s q n few =
       omega (
         arith,
         passed,
@@ -132,6 +132,7 @@ module _ {cs : List Raw} {f face : ℕ} (before behind : List Raw) (c : Raw) (pa
         ap ring_total rings_are,
         total_append (each rings_of before) (rings_of c ++ each rings_of behind),
         total_append (rings_of c) (each rings_of behind),
+        few,
       )
 
 -- ---- the cell found
@@ -159,4 +160,4 @@ module _ (cs : Cells) (f : ℕ) (p : Place) (c : CellFound cs f p) where
 
   -- so a 32-bit number can say where the face's ring ends
   pub found_fits : (s : Range ℕ) → SpanIn (rings_of (cell_raw p.cell)) p.face s → (s.start ≤ s.end) × (p.start + s.end < 4294967296)
-  found_fits s q = (omega (arith, q.end), omega (arith, found_end c.before [] (cell_raw p.cell) refl c.face c.within p.start c.start s q, words_few))
+  found_fits s q = (omega (arith, q.end), found_end c.before [] (cell_raw p.cell) refl c.face c.within p.start c.start s q 4294967296 words_few)
